@@ -1,0 +1,11 @@
+pub mod SourceOrder
+pub mod Places
+pub mod Tables
+pub mod LegalOrder
+pub mod Going
+pub mod Apart
+pub mod Known
+pub mod WholeRun
+pub mod Frame
+pub mod Counting
+pub mod Short

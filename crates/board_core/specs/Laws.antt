@@ -1,0 +1,116 @@
+-- What holds of every legal history.
+use Rattle.std.specs.Prelude.{◌≡◌, ◌≢◌, ◌⊎◌, ℕ, Bool, false, ◌<◌, slice_get, List, [], ◌∷◌, ◌++◌, length, take, All, AllPairs, Some, None, IsSome}
+use Rattle.pauli_product.specs.Signed.{Signed, OfLength}
+use Rattle.pauli_product.specs.Pulls.{carry}
+use Rattle.source_model.specs.declared.Item.{Item}
+use Rattle.source_model.specs.declared.Given.{Given}
+use Rattle.source_model.specs.declared.Kind.{Kind}
+use Rattle.source_model.specs.declared.Kind.TheVariants as kind
+use Rattle.source_model.specs.declared.Static.{Static}
+use Rattle.source_model.specs.SourceRun.{axes, fresh, flips, progress_after}
+use Rattle.source_model.specs.Statics.{static_items, commuting}
+use Rattle.source_model.specs.Circuits.{AxesOfLength, RightKinds}
+use Rattle.patch_layout.specs.Grid.{Grid}
+use Rattle.magic_pool.specs.declared.Fail.{Fail}
+use Rattle.board_core.specs.declared.Entry.{Entry}
+use Rattle.board_core.specs.History.{History, delivered, claim_place, done_place, taken_states}
+use Rattle.board_core.specs.Legal.{Job, AxisOf, FlipOf, Ready, Holds, Allowed, Legal, Complete}
+use Rattle.board_core.specs.Orders.{InSourceOrderUpToSwaps}
+use Rattle.board_core.specs.View.{claimed_axis, turns_of}
+use Rattle.board_core.specs.Headline.{job_of, IsOneLegalHistory}
+
+-- a legal history that is complete for a table of the right kinds keeps what a written history promises
+abbrev pub LegalAndCompleteIsTheHeadline : Type 0
+LegalAndCompleteIsTheHeadline = (n : ℕ) (items : List Item) (grid : Grid) (fails : List Fail) (table : List Given) (h : History) →
+    AxesOfLength n items → RightKinds items table → Legal (job_of items grid fails) h → Complete (job_of items grid fails) h table →
+    IsOneLegalHistory items grid fails table h
+
+-- the history delivers the outcome for the product; a settled product has none
+abbrev pub Delivers : History → ℕ → Given → Kind → Type 0
+Delivers h q g kind.Rotation = delivered h q ≡ Some g
+Delivers h q g (kind.Measure bit) = delivered h q ≡ Some g
+Delivers h q g (kind.Settle first size value) = Unit {0}
+
+-- the history delivers the table's outcome for each product below p
+abbrev pub DeliversBelow : Job → History → List Given → ℕ → Type 0
+DeliversBelow j h table p =
+    (q : ℕ) (s : Static) (g : Given) → q < p → slice_get j.products q ≡ Some s → slice_get table q ≡ Some g → Delivers h q g s.kind
+
+-- there, p's axis is the one that the whole table gives it
+abbrev pub AxisIsKnown : Type 0
+AxisIsKnown = (j : Job) (h : History) (table : List Given) (p : ℕ) (axis : Signed) →
+    length table ≡ length j.products → DeliversBelow j h table p →
+    slice_get (axes (static_items j.products) table) p ≡ Some axis → AxisOf j h p axis
+
+-- and for a circuit's static products it is the one that the circuit's own run gives
+abbrev pub OwnAxisIsKnown : Type 0
+OwnAxisIsKnown = (n : ℕ) (items : List Item) (grid : Grid) (fails : List Fail) (h : History) (table : List Given) (p : ℕ) (axis : Signed) →
+    AxesOfLength n items → RightKinds items table → DeliversBelow (job_of items grid fails) h table p →
+    slice_get (axes items table) p ≡ Some axis → AxisOf (job_of items grid fails) h p axis
+
+-- nor does a flip depend on outcomes of later products
+abbrev pub FlipIsKnown : Type 0
+FlipIsKnown = (j : Job) (h : History) (table : List Given) (p : ℕ) (s : Static) (first size value : ℕ) (flip : Bool) →
+    length table ≡ length j.products → DeliversBelow j h table p →
+    slice_get j.products p ≡ Some s → s.kind ≡ kind.Settle first size value →
+    flips (progress_after fresh (static_items (take p j.products)) table) first size value ≡ flip → FlipOf j h p flip
+
+-- nothing happened yet
+abbrev pub EmptyIsLegal : Type 0
+EmptyIsLegal = (j : Job) → Legal j []
+
+-- one more entry that is allowed
+abbrev pub AllowedGoesOn : Type 0
+AllowedGoesOn = (j : Job) (h : History) (e : Entry) → Legal j h → Allowed j h e → Legal j (h ++ e ∷ [])
+
+-- and each entry of a legal history is allowed behind a legal history
+abbrev pub LegalGoesBack : Type 0
+LegalGoesBack = (j : Job) (h : History) (e : Entry) → Legal j (h ++ e ∷ []) → Legal j h × Allowed j h e
+
+-- ---- swaps under corrections
+abbrev pub ProductsOfLength : ℕ → List Static → Type 0
+ProductsOfLength n products = All (λ s. OfLength n s.axis) products
+
+-- a table that has each outcome that the history delivers
+abbrev pub Agrees : List Given → History → Type 0
+Agrees table h = (q : ℕ) (g : Given) → delivered h q ≡ Some g → slice_get table q ≡ Some g
+
+-- each claim has the axis and sign of the source run, by every table that agrees with the deliveries
+abbrev pub ClaimsHaveSourceAxes : Type 0
+ClaimsHaveSourceAxes = (n : ℕ) (j : Job) (table : List Given) (h : History) (p : ℕ) (axis : Signed) →
+    ProductsOfLength n j.products → length table ≡ length j.products → Legal j h → Agrees table h → claimed_axis h p ≡ Some axis →
+    slice_get (axes (static_items j.products) table) p ≡ Some axis
+
+-- products are done in source order up to swaps of commuting neighbours
+abbrev pub OrderIsSourceOrderUpToSwaps : Type 0
+OrderIsSourceOrderUpToSwaps = (n : ℕ) (j : Job) (table : List Given) (h : History) →
+    ProductsOfLength n j.products → length table ≡ length j.products → Legal j h → Agrees table h →
+    InSourceOrderUpToSwaps j.products table h
+
+-- from its claim to its delivery a product's axis stays, whatever is delivered or settled between
+abbrev pub ClaimedAxisStays : Type 0
+ClaimedAxisStays = (n : ℕ) (j : Job) (h : History) (p : ℕ) (axis : Signed) (s : Static) →
+    ProductsOfLength n j.products → Legal j h → slice_get j.products p ≡ Some s → claimed_axis h p ≡ Some axis → done_place h p ≡ None →
+    carry (turns_of j.products h) s.axis ≡ axis
+
+-- the axis kept by corrections about executed axes, in any order, is that of the source run, for a product that isn't done and waits on none
+abbrev pub FrameIsSource : Type 0
+FrameIsSource = (n : ℕ) (j : Job) (h : History) (p : ℕ) (s : Static) →
+    ProductsOfLength n j.products → Legal j h → slice_get j.products p ≡ Some s → done_place h p ≡ None → Ready j h p →
+    AxisOf j h p (carry (turns_of j.products h) s.axis)
+
+-- a product that doesn't commute with an earlier k is neither claimed nor settled before what k waits for is done, even if it commutes with that
+abbrev pub ThirdHoldsBack : Type 0
+ThirdHoldsBack = (n : ℕ) (j : Job) (h : History) (i k p : ℕ) (s t u : Static) →
+    ProductsOfLength n j.products → Legal j h → i < k → k < p →
+    slice_get j.products i ≡ Some s → slice_get j.products k ≡ Some t → slice_get j.products p ≡ Some u →
+    commuting s t ≡ false → commuting t u ≡ false → IsSome (claim_place h p) ⊎ IsSome (done_place h p) →
+    IsSome (done_place h i)
+
+-- a cell has one holder
+abbrev pub RegionsAreApart : Type 0
+RegionsAreApart = (j : Job) (h : History) (p q c : ℕ) → Legal j h → Holds j.grid h p c → Holds j.grid h q c → p ≡ q
+
+-- no two claims have one state
+abbrev pub StatesServeOnce : Type 0
+StatesServeOnce = (j : Job) (h : History) → Legal j h → AllPairs (λ s t. s ≢ t) (taken_states h)

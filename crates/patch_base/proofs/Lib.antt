@@ -1,0 +1,5 @@
+pub mod Decimals
+pub mod Growth
+pub mod Pieces
+pub mod Shelves
+pub mod TextLemmas

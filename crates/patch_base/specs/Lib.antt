@@ -1,0 +1,7 @@
+pub mod Books
+pub mod Lines
+pub mod MemoryShelf
+pub mod MemorySink
+pub mod Names
+pub mod Outside
+pub mod Texts

@@ -1,0 +1,15 @@
+pub mod LookUps
+pub mod Notes
+pub mod Places
+pub mod Walking
+pub mod Neighbours
+pub mod Looking
+pub mod Tracing
+pub mod Fits
+pub mod Judging
+pub mod OnSides
+pub mod Trees
+pub mod Asked
+pub mod Certifying
+pub mod Rows
+pub mod Whole

@@ -1,0 +1,9 @@
+pub mod Grid
+pub mod Kept
+pub mod Region
+pub mod Joined
+pub mod Spread
+pub mod Certificate
+pub mod Tree
+pub mod Case
+pub mod Row

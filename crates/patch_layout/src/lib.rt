@@ -1,0 +1,22 @@
+//! Layouts of patches, their regions, and plans.
+#![tactic(auto)]
+
+mod certifier;
+mod check;
+mod fault;
+mod layout;
+mod plan;
+mod row;
+mod tables;
+#[cfg(test)]
+mod tests;
+mod touch;
+mod walk;
+
+pub use certifier::certify;
+pub use fault::LayoutFault;
+pub use layout::{Edge, Layout, Side, Site, Tile};
+pub use plan::{CellList, Fault, Parent, ParentList, Plan, TouchList};
+pub use row::{law_whole_fits, whole_region};
+pub use touch::wanted;
+pub use walk::{Reached, join};

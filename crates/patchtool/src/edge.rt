@@ -1,0 +1,112 @@
+//! Files and the standard streams as shelves and sinks. They tell nothing of their bytes.
+
+ghost use Rattle.std.specs.Prelude.{◌≡◌, ◌<◌, ◌≤◌, ◌^◌, length, Option, None, IfOk};
+
+use patch_base::{Failed, Shelf, Sink};
+use std::fs::{self, File};
+use std::io::{self, Read, Seek, SeekFrom, Write};
+
+/// A file that is open at a place.
+#[derive(Drop)]
+struct Reader {
+    name: String,
+    file: File,
+    at: u64,
+}
+
+impl Reader {
+    fn open(rt: &HostRuntime, name: &str, at: u64) -> io::Result<Reader> {
+        let mut file = fs::open(rt, name)?;
+        if at > 0 {
+            file.seek(SeekFrom::Start(at))?;
+        }
+        Ok(Reader {
+            name: String::from_str(rt.alloc(), name)?,
+            file,
+            at,
+        })
+    }
+}
+
+/// The files of the system. One count of faults serves all names.
+#[derive(Drop)]
+pub struct FileShelf<'a> {
+    rt: &'a HostRuntime,
+    last: Option<Reader>,
+    faults: u64,
+}
+
+impl<'a> FileShelf<'a> {
+    pub fn new(rt: &'a HostRuntime) -> FileShelf<'a> {
+        FileShelf {
+            rt,
+            last: None,
+            faults: 0,
+        }
+    }
+
+    /// Goes on in the file that was read last, where it is at this place.
+    fn read(&mut self, name: &str, at: u64, into: &mut [u8]) -> io::Result<usize>
+        requires { at < 2 ^ 32 }
+        ensures count { self.new.faults ≡ self.old.faults }
+        ensures within { IfOk result (λ n. n ≤ length into.new) }
+    {
+        let mut reader = match self.last.take() {
+            Some(reader) if reader.name.as_str() == name && reader.at == at => reader,
+            _ => Reader::open(self.rt, name, at)?,
+        };
+        let n = reader.file.read(into)?;
+        reader.at = at + n as u64;
+        self.last = Some(reader);
+        Ok(n)
+    }
+}
+
+impl Shelf for FileShelf<'_> {
+    ghost tells = { λ shelf name. None };
+
+    ghost faults = { λ shelf name. shelf.faults };
+
+    fn read_at(&mut self, name: &str, at: u64, into: &mut [u8]) -> Result<usize, Failed> {
+        match self.read(name, at, into) {
+            Ok(n) => Ok(n),
+            Err(_) => {
+                self.faults = self.faults.saturating_add(1);
+                Err(Failed)
+            }
+        }
+    }
+}
+
+/// A stream of the system, as standard output.
+#[derive(Drop)]
+pub struct StreamSink<W: Write> {
+    stream: W,
+    faults: u64,
+}
+
+impl<W: Write> StreamSink<W> {
+    pub fn new(stream: W) -> StreamSink<W> {
+        StreamSink { stream, faults: 0 }
+    }
+}
+
+impl<W: Write> Sink for StreamSink<W> {
+    ghost taken = { λ sink. None };
+
+    ghost faults = { λ sink. sink.faults };
+
+    fn write(&mut self, bytes: &[u8]) -> Result<usize, Failed> {
+        match self.stream.write(bytes) {
+            Ok(0) if !bytes.is_empty() => {
+                self.faults = self.faults.saturating_add(1);
+                Ok(0)
+            }
+            Ok(n) => Ok(n),
+            Err(_) => {
+                self.faults = self.faults.saturating_add(1);
+                Err(Failed)
+            }
+        }
+    }
+}

@@ -1,0 +1,5 @@
+pub mod LetterLaws
+pub mod Algebra
+pub mod Turns
+pub mod Products
+pub mod Texts

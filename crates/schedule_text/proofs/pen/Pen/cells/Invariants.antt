@@ -1,0 +1,11 @@
+use Rattle.std.proofs.Common.{◌≤◌, length, take}
+use Rattle.std.specs.Prelude.{flat_map}
+use Rattle.schedule_text.specs.Pens.{Passes, cell_word}
+use Rattle.schedule_text.proofs.pen.Pen.cells.Given as goal
+
+abbrev pub invariant-loop-cell : goal.invariant-loop-cell
+invariant-loop-cell g l = record {
+  counts : g.O.Sink.faults l.initial.out ≤ g.O.Sink.faults l.out;
+  passes : Passes (g.O.Sink.taken l.initial.out) (g.O.Sink.taken l.out) l.initial.self l.self (flat_map cell_word (take l.cell-index l.cells));
+  room : length l.self ≤ 8000;
+}

@@ -1,0 +1,51 @@
+-- Bytes on their way through a pen, which holds some of them back, to a sink.
+use Rattle.std.specs.Prelude.{◌≡◌, ℕ, Bool, ◌+◌, ◌≤◌, List, [], ◌∷◌, ◌++◌, flat_map, codes, decimal, Option}
+use Rattle.pauli_product.specs.Spelling.{product_text}
+use Rattle.source_model.specs.declared.Register.{Register}
+use Rattle.board_core.specs.declared.Noted.{Noted}
+use Rattle.board_core.specs.declared.Entry.{Entry}
+use Rattle.board_core.specs.declared.Entry.TheVariants.{Claim, Deliver, Release, Step, Settle}
+use Rattle.patch_base.specs.Outside.{Grew}
+use Rattle.schedule_text.specs.Text.{optional, entry_words, entry_line, bits_line, two, ended}
+
+-- of the bytes that were held and of these, the first went to the sink, and the others are held
+pub record Passes (was now : Option (List ℕ)) (held holds bytes : List ℕ) : Type 0 where
+  pub sent : List ℕ
+  pub grew : Grew was now sent
+  pub whole : held ++ bytes ≡ sent ++ holds
+
+-- words, each behind a space
+abbrev pub spread : List (List ℕ) → List ℕ
+spread words = flat_map (λ w. 32 ∷ w) words
+
+-- the words of an entry but for a claim's cells
+abbrev pub head_words : Entry → List (List ℕ)
+head_words (Claim p axis port state cells) = codes "C" ∷ decimal p ∷ product_text axis ∷ optional port ∷ optional state ∷ []
+head_words (Deliver p g) = entry_words (Deliver p g)
+head_words (Release p) = entry_words (Release p)
+head_words (Step f) = entry_words (Step f)
+head_words (Settle p flip) = entry_words (Settle p flip)
+
+-- a cell behind a space
+abbrev pub cell_word : ℕ → List ℕ
+cell_word cell = 32 ∷ decimal cell
+
+-- the register's bits are among the first n
+abbrev pub IsWithin : ℕ → Register → Type 0
+IsWithin n r = r.first + r.size ≤ n
+
+-- the cells of a claim
+abbrev pub cells_in : Entry → List ℕ
+cells_in (Claim p axis port state cells) = cells
+cells_in (Deliver p g) = []
+cells_in (Release p) = []
+cells_in (Step f) = []
+cells_in (Settle p flip) = []
+
+-- an entry's line of version 2 with its line feed
+abbrev pub entry_text : Noted → List ℕ
+entry_text n = ended (entry_line two n)
+
+-- a register's line with its line feed
+abbrev pub register_text : (ℕ → Bool) → Register → List ℕ
+register_text bit r = ended (bits_line bit r)

@@ -1,0 +1,9 @@
+pub mod Outcomes
+pub mod SourceRun
+pub mod Statics
+pub mod Circuits
+pub mod Bits
+pub mod Used
+pub mod Kept
+pub mod Laws
+pub mod Rows

@@ -1,0 +1,10 @@
+pub mod Command
+pub mod Words
+pub mod ListText
+pub mod OutcomeList
+pub mod Needs
+pub mod Plain
+pub mod Past
+pub mod Serial
+pub mod Written
+pub mod Ends
