@@ -13,3 +13,4 @@ pub mod Asked
 pub mod Certifying
 pub mod Rows
 pub mod Whole
+pub mod Checking

@@ -7,3 +7,4 @@ pub mod Certificate
 pub mod Tree
 pub mod Case
 pub mod Row
+pub mod Look

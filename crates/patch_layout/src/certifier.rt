@@ -8,7 +8,7 @@ ghost use Rattle.patch_layout.specs.Certificate.{CellFits, ParentFits, Each, Cer
 ghost use Rattle.patch_layout.specs.Case.{case_of, Ascending};
 ghost use Rattle.patch_layout.specs.Region.{AreJoined, Fit};
 
-use crate::check::bad_cell;
+use crate::checker::bad_cell;
 use crate::layout::Layout;
 use crate::plan::{CellList, Parent, ParentList, Plan, TouchList};
 use crate::touch::{touches_of, wanted};

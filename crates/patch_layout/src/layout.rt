@@ -101,6 +101,23 @@ impl Layout {
         })
     }
 
+    /// An equal layout.
+    pub fn copy(&self, alloc: Global) -> Result<Layout, Memory>
+        ensures { IfOk result (λ layout. layout ≡ self.now) }
+    {
+        let sites = Vec::from_slice(alloc, &self.sites)?;
+        let patches = Vec::from_slice(alloc, &self.patches)?;
+        let ports = Vec::from_slice(alloc, &self.ports)?;
+        Ok(Layout {
+            rows: self.rows,
+            columns: self.columns,
+            sites,
+            patches,
+            ports,
+        })
+    }
+
+    /// The number of rows.
     pub fn rows(&self) -> u32
         ensures value { result ≡ self.now.rows }
         ensures sound { Sound self.now }
@@ -108,6 +125,7 @@ impl Layout {
         self.rows
     }
 
+    /// The number of columns. The cell in row r and column c has the number r * columns + c.
     pub fn columns(&self) -> u32
         ensures value { result ≡ self.now.columns }
         ensures sound { Sound self.now }
@@ -123,6 +141,7 @@ impl Layout {
         self.sites.len() as u32
     }
 
+    /// What a cell is.
     pub fn tile(&self, cell: u32) -> Tile
         requires { cell < length self.now.sites }
         ensures { Some result ≡ tile_of (slice_get self.now.sites cell) }

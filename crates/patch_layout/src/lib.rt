@@ -2,9 +2,10 @@
 #![tactic(auto)]
 
 mod certifier;
-mod check;
+mod checker;
 mod fault;
 mod layout;
+mod look;
 mod plan;
 mod row;
 mod tables;
@@ -14,8 +15,10 @@ mod touch;
 mod walk;
 
 pub use certifier::certify;
+pub use checker::check;
 pub use fault::LayoutFault;
 pub use layout::{Edge, Layout, Side, Site, Tile};
+pub use look::{HeldList, Look};
 pub use plan::{CellList, Fault, Parent, ParentList, Plan, TouchList};
 pub use row::{law_whole_fits, whole_region};
 pub use touch::wanted;

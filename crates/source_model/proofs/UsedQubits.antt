@@ -1,4 +1,4 @@
--- Products are carried out about axes that act on used qubits alone.
+-- Rotations and measurements are carried out about axes that act on used qubits alone.
 use Rattle.std.proofs.Common.{◌≡◌, ℕ, zero, suc, Bool, true, false, ◌&&◌, ◌||◌, if◌then◌else◌, List, [], ◌∷◌, ◌++◌, Some, slice_get, slice_index_or, IsTrue, refl, ap, sym, ◌∙◌, subst}
 use Rattle.pauli_product.specs.declared.Letter.{Letter}
 use Rattle.pauli_product.specs.declared.Letter.TheVariants.{I, X, Y, Z}
@@ -18,7 +18,7 @@ use Rattle.source_model.specs.Outcomes.{raw_of, x_of}
 use Rattle.source_model.specs.SourceRun.{Progress, fresh, after, axis_in, flips, turned, next_of, rest_of, axes_from, axes}
 use Rattle.source_model.specs.Statics.{statics, static_items}
 use Rattle.source_model.specs.Circuits.{AxesOfLength}
-use Rattle.source_model.specs.Used.{acts, acts_at, is_used, UsedBy}
+use Rattle.source_model.specs.Used.{acts, acts_at, takes_region, is_used, UsedBy}
 use Rattle.source_model.proofs.EqualRuns.{statics_run_alike}
 
 -- ---- turns that leave the letter at a qubit
@@ -76,45 +76,47 @@ settled_leaves q true f axis h = leave_append q f.turns (turn axis half ∷ []) 
 settled_leaves q false f axis h = h
 
 -- ---- along the static products
--- from any progress whose turns leave the qubit, no product acts on it
+-- from any progress whose turns leave the qubit, no rotation or measurement acts on it
 abbrev Untouched : ℕ → List Static → Type 0
-Untouched q products = (f : Progress) (gs : List Given) (k : ℕ) (axis : Signed) → LeaveAll q f.turns → slice_get (axes_from f (static_items products) gs) k ≡ Some axis → acts_at axis q ≡ false
+Untouched q products = (f : Progress) (gs : List Given) (k : ℕ) (s : Static) (axis : Signed) → LeaveAll q f.turns → slice_get products k ≡ Some s → takes_region s.kind ≡ true → slice_get (axes_from f (static_items products) gs) k ≡ Some axis → acts_at axis q ≡ false
 
-untouched_behind : (q : ℕ) (a : Signed) (kd : Kind) (ss : List Static) → acts_at a q ≡ false → Untouched q ss → Untouched q (record { axis = a; kind = kd } ∷ ss)
-untouched_behind q a kind.Rotation ss h rest f gs zero axis l r =
+untouched_behind : (q : ℕ) (a : Signed) (kd : Kind) (ss : List Static) → (takes_region kd && acts_at a q) ≡ false → Untouched q ss → Untouched q (record { axis = a; kind = kd } ∷ ss)
+untouched_behind q a kind.Rotation ss h rest f gs zero s axis l i e r =
     let same : axis_in f a ≡ axis = cc in
     subst (λ (p : Signed). acts_at p q ≡ false) same (pull_acts q f.turns a l h)
-untouched_behind q a kind.Rotation ss h rest f gs (suc k) axis l r =
+untouched_behind q a kind.Rotation ss h rest f gs (suc k) s axis l i e r =
     let o = next_of gs in
-    rest (after f (item.Turn a Eighth) o) (rest_of gs) k axis
-    (leave_append q f.turns (corrections (axis_in f a) a (raw_of o) (x_of o)) l (corrections_leave q (axis_in f a) a (raw_of o) (x_of o) h)) r
-untouched_behind q a (kind.Measure bit) ss h rest f gs zero axis l r =
+    rest (after f (item.Turn a Eighth) o) (rest_of gs) k s axis
+    (leave_append q f.turns (corrections (axis_in f a) a (raw_of o) (x_of o)) l (corrections_leave q (axis_in f a) a (raw_of o) (x_of o) h)) i e r
+untouched_behind q a (kind.Measure bit) ss h rest f gs zero s axis l i e r =
     let same : axis_in f a ≡ axis = cc in
     subst (λ (p : Signed). acts_at p q ≡ false) same (pull_acts q f.turns a l h)
-untouched_behind q a (kind.Measure bit) ss h rest f gs (suc k) axis l r =
-    rest (after f (item.Measure a bit) (next_of gs)) (rest_of gs) k axis l r
-untouched_behind q a (kind.Settle first size value) ss h rest f gs zero axis l r =
-    let same : axis_in f a ≡ axis = cc in
-    subst (λ (p : Signed). acts_at p q ≡ false) same (pull_acts q f.turns a l h)
-untouched_behind q a (kind.Settle first size value) ss h rest f gs (suc k) axis l r =
-    rest (after f (item.If a first size value) (next_of gs)) (rest_of gs) k axis (settled_leaves q (flips f first size value) f a l) r
+untouched_behind q a (kind.Measure bit) ss h rest f gs (suc k) s axis l i e r =
+    rest (after f (item.Measure a bit) (next_of gs)) (rest_of gs) k s axis l i e r
+untouched_behind q a (kind.Settle first size value) ss h rest f gs zero s axis l i e r =
+    let same : kind.Settle first size value ≡ s.kind = cc in
+    let no : takes_region (kind.Settle first size value) ≡ true = ap takes_region same ∙ e in
+    cc
+untouched_behind q a (kind.Settle first size value) ss h rest f gs (suc k) s axis l i e r =
+    rest (after f (item.If a first size value) (next_of gs)) (rest_of gs) k s axis (settled_leaves q (flips f first size value) f a l) i e r
 
 neither : (x y : Bool) → (x || y) ≡ false → (x ≡ false) × (y ≡ false)
 neither true y e = cc
 neither false y e = (refl, e)
 
 untouched : (q : ℕ) (products : List Static) → is_used products q ≡ false → Untouched q products
-untouched q [] h = λ (f : Progress) (gs : List Given) (k : ℕ) (axis : Signed) l r. cc
+untouched q [] h = λ (f : Progress) (gs : List Given) (k : ℕ) (s : Static) (axis : Signed) l i e r. cc
 untouched q (s ∷ ss) h =
-    let parts = neither (acts_at s.axis q) (is_used ss q) h in
+    let parts = neither (takes_region s.kind && acts_at s.axis q) (is_used ss q) h in
     untouched_behind q s.axis s.kind ss parts.0 (untouched q ss parts.1)
 
-pub acts_on_used : (n : ℕ) (items : List Item) (gs : List Given) (k : ℕ) (axis : Signed) (q : ℕ) → AxesOfLength n items → slice_get (axes items gs) k ≡ Some axis → acts_at axis q ≡ true → UsedBy (statics items) q
-acts_on_used n items gs k axis q h r acting = cases (is_used (statics items) q) refl
+pub acts_on_used : (n : ℕ) (items : List Item) (gs : List Given) (k : ℕ) (s : Static) (axis : Signed) (q : ℕ) → AxesOfLength n items → slice_get (statics items) k ≡ Some s → takes_region s.kind ≡ true → slice_get (axes items gs) k ≡ Some axis → acts_at axis q ≡ true →
+    UsedBy (statics items) q
+acts_on_used n items gs k s axis q h i e r acting = cases (is_used (statics items) q) refl
   where
     cases : (b : Bool) → is_used (statics items) q ≡ b → IsTrue b
     cases true u = refl
     cases false u =
         let r' : slice_get (axes (static_items (statics items)) gs) k ≡ Some axis = ap (λ as'. slice_get as' k) (sym (statics_run_alike n items gs h)) ∙ r in
-        let idle : acts_at axis q ≡ false = untouched q (statics items) u fresh gs k axis tt r' in
+        let idle : acts_at axis q ≡ false = untouched q (statics items) u fresh gs k s axis tt i e r' in
         cc

@@ -8,7 +8,7 @@ use Rattle.source_model.specs.SourceRun.{axes, bit_after}
 use Rattle.source_model.specs.Bits.{effective_outcomes, last_outcome_into}
 use Rattle.source_model.specs.Statics.{statics, static_items, kinds_of}
 use Rattle.source_model.specs.Circuits.{AxesOfLength, RightKinds, kinds}
-use Rattle.source_model.specs.Used.{UsedBy, acts_at}
+use Rattle.source_model.specs.Used.{UsedBy, takes_region, acts_at}
 
 -- a product's axis depends on the outcomes of the products before it alone
 abbrev pub LaterOutcomesDontMatter : Type 0
@@ -42,7 +42,8 @@ abbrev pub StaticsWriteAlike : Type 0
 StaticsWriteAlike = (n : ℕ) (items : List Item) (gs : List Given) (bit : ℕ) → AxesOfLength n items →
     bit_after items gs bit ≡ bit_after (static_items (statics items)) gs bit
 
--- each product's axis has I wherever no static axis has another letter
+-- a rotation or a measurement is carried out about an axis that has I wherever no static axis of one has another letter
 abbrev pub AxesStayOnUsed : Type 0
-AxesStayOnUsed = (n : ℕ) (items : List Item) (gs : List Given) (k : ℕ) (axis : Signed) (q : ℕ) → AxesOfLength n items →
-    slice_get (axes items gs) k ≡ Some axis → acts_at axis q ≡ true → UsedBy (statics items) q
+AxesStayOnUsed = (n : ℕ) (items : List Item) (gs : List Given) (k : ℕ) (s : Static) (axis : Signed) (q : ℕ) → AxesOfLength n items →
+    slice_get (statics items) k ≡ Some s → takes_region s.kind ≡ true → slice_get (axes items gs) k ≡ Some axis → acts_at axis q ≡ true →
+    UsedBy (statics items) q

@@ -28,7 +28,7 @@ pub fn law_equal_runs()
     ensures bits { StaticsWriteAlike }
 {}
 
-/// Products act on used qubits alone.
+/// Rotations and measurements act on used qubits alone.
 pub fn law_used()
     ensures { AxesStayOnUsed }
 {}

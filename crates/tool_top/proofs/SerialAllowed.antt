@@ -18,7 +18,7 @@ use Rattle.source_model.specs.SourceRun.{axes}
 use Rattle.source_model.specs.Statics.{statics, kinds_of}
 use Rattle.source_model.specs.Circuits.{AxesOfLength, RightKinds, OutcomesOf, IsOutcomeOf, kinds}
 use Rattle.source_model.specs.Laws.{StaticsKeepKinds, AxesStayOnUsed}
-use Rattle.source_model.specs.Used.{acts}
+use Rattle.source_model.specs.Used.{acts, takes_region}
 use Rattle.patch_layout.specs.Grid.{Grid}
 use Rattle.patch_layout.specs.Region.{Fit}
 use Rattle.patch_layout.specs.Row.{ancilla_cells, StandsAtUsed, HasNamed, WholeFits, WholeAscends, WholeIsAncilla}
@@ -118,6 +118,11 @@ acts_other letter.X ne = refl
 acts_other letter.Y ne = refl
 acts_other letter.Z ne = refl
 
+takes : (k : Kind) → IsPlainKind k → takes_region k ≡ true
+takes kind.Rotation p = refl
+takes (kind.Measure bit) p = refl
+takes (kind.Settle first size value) p = absurd p
+
 has_port : (grid : Grid) (k : Kind) (g : Given) → IsOutcomeOf k g → (k ≡ kind.Rotation → HasFactory grid) → HasNamed grid (port_for g)
 has_port grid kind.Rotation (given.Rotation raw x) o factory = let f = factory refl in (f.1.0, (f.1.1, f.0, f.1.2))
 has_port grid (kind.Measure bit) (given.Rotation raw x) o factory = absurd o
@@ -131,7 +136,7 @@ whole_fits : (n : ℕ) (items : List Item) (grid : Grid) (table : List Given) (p
 whole_fits n items grid table p g axis fits whole stays long serves product e =
     let open_for = serves.open_for in
     let used : StandsAtUsed axis open_for.0.used = λ q l is other.
-    open_for.2 q (stays n items table p axis q long e (ap acts (get_or_from_slice_get axis.letters q l letter.I is) ∙ acts_other l other)) in
+    open_for.2 q (stays n items table p product.static axis q long product.is (takes product.static.kind product.plain) e (ap acts (get_or_from_slice_get axis.letters q l letter.I is) ∙ acts_other l other)) in
     let some = whole grid serves.some.0 serves.some.1 in
     fits grid open_for.0 axis (port_for g) open_for.1 used (has_port grid product.static.kind g product.outcome (serves.factory p product.static product.is)) (omega (arith, some.1))
 

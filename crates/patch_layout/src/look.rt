@@ -1,0 +1,110 @@
+//! What a planner sees of a board.
+
+ghost use Rattle.std.specs.Prelude.{◌≡◌, ◌<◌, ◌≤◌, length, IfOk, false, replicate, slice_set};
+ghost use Rattle.patch_layout.specs.Look.{identity};
+
+use crate::layout::Layout;
+use patch_base::Memory;
+use pauli_product::{Letter, Product};
+use std::alloc::Global;
+use std::marker::Model;
+
+/// The product that holds each cell, which contracts see as a list.
+#[derive(Drop)]
+pub struct HeldList {
+    held: Vec<Option<u32>>,
+}
+
+impl Model for HeldList {
+    ghost use Rattle.std.specs.Prelude.{List, Option, ℕ};
+
+    ghost Value = { List (Option ℕ) };
+
+    ghost view = { λ s. s.held.items };
+}
+
+impl HeldList {
+    /// The list of these holders, cell by cell.
+    pub fn of(held: Vec<Option<u32>>) -> HeldList
+        ensures { result ≡ held.items }
+    {
+        HeldList { held }
+    }
+
+    /// The holders, given back.
+    pub fn into_vec(self) -> Vec<Option<u32>>
+        ensures { result.items ≡ self }
+    {
+        self.held
+    }
+
+    /// The holders, cell by cell.
+    pub fn as_slice(&self) -> &[Option<u32>]
+        ensures { result.now ≡ self.now }
+    {
+        self.held.as_slice()
+    }
+
+    /// Takes over all holders.
+    pub fn copy_from(&mut self, held: &[Option<u32>])
+        requires { length held.now ≡ length self.old }
+        ensures { self.new ≡ held.now }
+    {
+        self.held.copy_from_slice(held);
+    }
+
+    /// Sets the holder of a cell.
+    pub fn set(&mut self, cell: u32, by: Option<u32>)
+        requires { cell < length self.old }
+        ensures { self.new ≡ slice_set self.old cell by }
+    {
+        self.held[cell as usize] = by;
+    }
+}
+
+/// What a planner sees of a board: the product that is to be claimed, and what is held and ready.
+#[derive(Drop)]
+pub struct Look {
+    /// The number of the product.
+    pub product: u32,
+    /// The length of the history.
+    pub length: u32,
+    /// Whether the product is a rotation.
+    pub rotation: bool,
+    /// The place of the product's claim.
+    pub taken: Option<u32>,
+    /// The least earlier product that the product waits on.
+    pub waits: Option<u32>,
+    /// The static axis conjugated by the corrections so far, the first one first.
+    pub axis: Product,
+    /// The product that holds each cell.
+    pub held: HeldList,
+    /// The ready states of each factory number.
+    pub ready: [u32; 16],
+}
+
+impl Look {
+    /// A look at product 0 of an empty history: no cell is held, nothing is taken or ready, and the axis is the identity. The fields are the caller's to fill.
+    pub fn new(alloc: Global, layout: &Layout, qubits: u32) -> Result<Look, Memory>
+        requires { qubits ≤ 1024 }
+        ensures unheld { IfOk result (λ look. look.held ≡ replicate (length layout.now.sites) None) }
+        ensures untaken { IfOk result (λ look. (look.taken ≡ None) × (look.waits ≡ None)) }
+        ensures identity { IfOk result (λ look. look.axis ≡ identity qubits) }
+        ensures first { IfOk result (λ look. (look.product ≡ 0) × (look.length ≡ 0) × (look.rotation ≡ false)) }
+        ensures unready { IfOk result (λ look. look.ready ≡ replicate 16 0) }
+    {
+        let letters = vec![in alloc; Letter::I; qubits as usize]?;
+        let axis = Product::new(alloc, false, &letters)?;
+        let held = vec![in alloc; None; layout.size() as usize]?;
+        Ok(Look {
+            product: 0,
+            length: 0,
+            rotation: false,
+            taken: None,
+            waits: None,
+            axis,
+            held: HeldList::of(held),
+            ready: [0; 16],
+        })
+    }
+}
