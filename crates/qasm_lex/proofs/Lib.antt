@@ -1,0 +1,4 @@
+pub mod Heads
+pub mod Wholes
+pub mod Turns
+pub mod Placed
