@@ -2,6 +2,15 @@
 //! makes a state at its last step. States are numbered over all factories in the order made.
 #![tactic(auto)]
 
+mod factory;
+mod laws;
+mod pool;
+#[cfg(test)]
+mod tests;
+
+pub use laws::{law_apart, law_once};
+pub use pool::Pool;
+
 /// A factory and its store: the greatest number of ready states at which a run may begin.
 #[derive(Clone, Copy, Debug, PartialEq, Eq)]
 pub struct Maker {
@@ -18,4 +27,33 @@ pub struct Fail {
     pub factory: u32,
     /// The run of that factory, numbered from 0.
     pub run: u32,
+}
+
+/// What a step did.
+#[derive(Clone, Copy, Debug, PartialEq, Eq)]
+pub enum Stepped {
+    /// The run goes on.
+    Running,
+    /// The run has made a state.
+    Made {
+        /// The state's number over all factories.
+        state: u32,
+    },
+    /// The run was listed, and has failed.
+    Failed {
+        /// The run's number in its factory.
+        run: u32,
+    },
+}
+
+/// Why a step was refused.
+#[derive(Clone, Copy, Debug, PartialEq, Eq)]
+pub enum StepRefused {
+    /// There is no such factory.
+    NoFactory,
+    /// A run would begin, and the store is full.
+    Stocked {
+        /// How many states are ready.
+        ready: u32,
+    },
 }

@@ -1,14 +1,9 @@
 -- What a sink took of one text and then of another.
-use Rattle.std.proofs.Common.{◌≡◌, ℕ, ◌+◌, List, ◌++◌, length, take, Option, Some, None, sym, ap, ◌∙◌, subst, append_assoc, arith, length-append}
+use Rattle.std.proofs.Common.{◌≡◌, ℕ, ◌+◌, List, ◌++◌, length, take, Option, sym, subst, arith, length-append}
 use Rattle.std.proofs.lemmas.List.{take-append-le}
 use Rattle.std.proofs.Math.Seq.{take-append-add}
 use Rattle.patch_base.specs.Outside.{Grew, AppendsPrefix}
-
-pub grew_on : (a b c : Option (List ℕ)) (x y : List ℕ) → Grew a b x → Grew b c y → Grew a c (x ++ y)
-grew_on None b c x y e f = let P : Option (List ℕ) → Type 0 = λ o. Grew o c y in subst P e f
-grew_on (Some t) b c x y e f =
-    let P : Option (List ℕ) → Type 0 = λ o. Grew o c y in
-    let g : c ≡ Some (t ++ x ++ y) = subst P e f in g ∙ ap Some (append_assoc t x y)
+use Rattle.schedule_text.proofs.Passing.{grew_on}
 
 -- a first part of one text is one of that text and another behind it
 pub part_longer : (a b : Option (List ℕ)) (x y : List ℕ) → AppendsPrefix a b x → AppendsPrefix a b (x ++ y)

@@ -65,6 +65,7 @@ fn with_outcomes<S: Shelf, O: Sink>(
     requires serves { Serves layout.now (statics circuit.now.items) }
     ensures told { (n : List ℕ) → S.tells shelf.new n ≡ S.tells shelf.old n }
     ensures counts { (n : List ℕ) → S.faults shelf.old n ≤ S.faults shelf.new n }
+    ensures out_counts { O.faults out.old ≤ O.faults out.new }
     ensures ends { ReadsTable (reading (S.tells shelf.old) (S.faults shelf.old) (S.faults shelf.new))
         (writing (O.taken out.old) (O.taken out.new) (O.faults out.old) (O.faults out.new)) outcomes.now circuit.now result }
 {
@@ -93,6 +94,7 @@ fn on_row<S: Shelf, O: Sink>(
     requires few { length circuit.now.items ≤ 16384 }
     ensures told { (n : List ℕ) → S.tells shelf.new n ≡ S.tells shelf.old n }
     ensures counts { (n : List ℕ) → S.faults shelf.old n ≤ S.faults shelf.new n }
+    ensures out_counts { O.faults out.old ≤ O.faults out.new }
     ensures ends { LaysOut (reading (S.tells shelf.old) (S.faults shelf.old) (S.faults shelf.new))
         (writing (O.taken out.old) (O.taken out.new) (O.faults out.old) (O.faults out.new)) outcomes.now circuit.now result }
 {
@@ -115,6 +117,7 @@ pub fn serial<S: Shelf, O: Sink>(
 ) -> End
     ensures told { (n : List ℕ) → S.tells shelf.new n ≡ S.tells shelf.old n }
     ensures counts { (n : List ℕ) → S.faults shelf.old n ≤ S.faults shelf.new n }
+    ensures out_counts { O.faults out.old ≤ O.faults out.new }
     ensures ends { Because (reading (S.tells shelf.old) (S.faults shelf.old) (S.faults shelf.new))
         (writing (O.taken out.old) (O.taken out.new) (O.faults out.old) (O.faults out.new)) names.entry.circuit.now names.entry.outcomes.now result }
 {

@@ -1,6 +1,6 @@
 //! All that `patchtool` does.
 
-ghost use Rattle.std.specs.Prelude.{◌≡◌, ◌⊎◌, map, string_bytes};
+ghost use Rattle.std.specs.Prelude.{◌≡◌, ◌≤◌, ◌⊎◌, ℕ, List, map, string_bytes};
 ghost use Rattle.tool_top.specs.Ends.{CarriesOut, Ends, RefusesWords, reading, writing};
 
 use crate::fault::{say, write_line};
@@ -28,6 +28,12 @@ pub fn tool_main<S: Shelf, O: Sink, E: Sink>(
         let written = writing (O.taken out.old) (O.taken out.new) (O.faults out.old) (O.faults out.new) in
         let said = writing (E.taken err.old) (E.taken err.new) (E.faults err.old) (E.faults err.new) in
         RefusesWords (map string_bytes words.now) written said result ⊎ Ends (map string_bytes words.now) read written said result }
+
+    // What the shelf tells stays, and no count falls.
+    ensures told { (n : List ℕ) → S.tells shelf.new n ≡ S.tells shelf.old n }
+    ensures shelf_counts { (n : List ℕ) → S.faults shelf.old n ≤ S.faults shelf.new n }
+    ensures out_counts { O.faults out.old ≤ O.faults out.new }
+    ensures err_counts { E.faults err.old ≤ E.faults err.new }
 {
     let Some(names) = serial_words(words) else {
         let _ = write_line(err, b"words", b"");

@@ -1,5 +1,6 @@
 use Rattle.std.proofs.Common.{rules, [], ◌∷◌}
-use Rattle.tool_top.proofs.Sinks.{grew_on, part_longer, part_on}
+use Rattle.schedule_text.proofs.Passing.{grew_on}
+use Rattle.tool_top.proofs.Sinks.{part_longer, part_on}
 use Rattle.tool_top.proofs.fault.write_line.Goals as goal
 
 pub returns-in_err-write_all-2-clause-part : goal.returns-in_err-write_all-2-clause-part

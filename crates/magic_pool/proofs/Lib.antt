@@ -1,0 +1,4 @@
+pub mod Fewer
+pub mod Histories
+pub mod Readiness
+pub mod Runs
