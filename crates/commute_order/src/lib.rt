@@ -1,0 +1,274 @@
+//! Which products commute, and what a product waits on.
+#![tactic(auto)]
+
+mod bits;
+
+ghost use Rattle.std.specs.Prelude.{◌≡◌, ◌≢◌, ℕ, ◌+◌, ◌<◌, ◌≤◌, true, false, not, List, length, replicate, slice_get, slice_set, slice_index_or, Some, IfOk, All};
+ghost use Rattle.pauli_product.specs.Signed.{Signed, OfLength};
+ghost use Rattle.commute_order.specs.Commuting.{reads_from, commuting, commuting_at, IsOrder, OneLength, LeastWait};
+
+use bits::Bits;
+use patch_base::Memory;
+use pauli_product::Product;
+use std::alloc::Global;
+use std::marker::Model;
+
+/// The classical bits that a product reads and writes: `read_size` bits from number `read_first`
+/// on, and `write`.
+#[derive(Clone, Copy, Debug, PartialEq, Eq)]
+pub struct Uses {
+    pub read_first: u32,
+    pub read_size: u32,
+    pub write: Option<u32>,
+}
+
+impl Uses {
+    fn reads_from(&self, other: &Uses) -> bool
+        ensures { result ≡ reads_from self.now other.now }
+    {
+        match other.write {
+            None => false,
+            Some(bit) => self.read_first <= bit && bit - self.read_first < self.read_size,
+        }
+    }
+}
+
+/// For each product, which ones up to itself it doesn't commute with.
+///
+/// Two products commute where their axes do and neither reads a bit that the other writes.
+#[derive(Drop)]
+pub struct Order {
+    rows: Vec<Bits>,
+}
+
+impl Model for Order {
+    ghost use Rattle.std.specs.Prelude.{List, Bool};
+
+    ghost Value = { List (List Bool) };
+
+    ghost view = { λ o. o.rows.items };
+
+    ghost use Rattle.std.specs.Prelude.{◌≡◌, ℕ, ◌+◌, ◌<◌, [], length, slice_index_or};
+
+    ghost invariant = { λ o. (p : ℕ) → p < length o.rows.items → length (slice_index_or o.rows.items p []) ≡ p + 1 };
+}
+
+impl Order {
+    /// The order of at most 16,384 products on equally many qubits, and what each of them uses.
+    pub fn build(alloc: Global, products: &[Product], uses: &[Uses]) -> Result<Order, Memory>
+        requires uses { length uses.now ≡ length products.now }
+        requires few { length products.now ≤ 16384 }
+        requires qubits { OneLength products.now }
+        ensures { IfOk result (IsOrder products.now uses.now) }
+    {
+        let mut rows = Vec::with_capacity(alloc, products.len())?;
+        for p in 0..products.len() {
+            rows.push_reserved(row(alloc, products, uses, p)?);
+        }
+        Ok(Order { rows })
+    }
+
+    /// Whether two products commute.
+    pub fn commute(&self, i: u32, j: u32) -> bool
+        requires i { i < length self.now }
+        requires j { j < length self.now }
+        ensures { (ps : List Signed) (us : List Uses) → IsOrder ps us self.now → result ≡ commuting_at ps us i j }
+    {
+        if i < j {
+            !self.rows[j as usize].has(i)
+        } else {
+            !self.rows[i as usize].has(j)
+        }
+    }
+
+    /// The least product before `p` that doesn't commute with it and isn't done.
+    pub fn waits_on(&self, p: u32, done: &DoneSet) -> Option<u32>
+        requires p { p < length self.now }
+        requires done { length done.now ≡ length self.now }
+        ensures { (ps : List Signed) (us : List Uses) → IsOrder ps us self.now → LeastWait ps us done.now p result }
+    {
+        self.rows[p as usize].first_open(&done.bits, p)
+    }
+}
+
+/// Which products are done: a truth value for each.
+#[derive(Drop)]
+pub struct DoneSet {
+    bits: Bits,
+}
+
+impl Model for DoneSet {
+    ghost use Rattle.std.specs.Prelude.{List, Bool};
+
+    ghost Value = { List Bool };
+
+    ghost view = { λ d. d.bits };
+}
+
+impl DoneSet {
+    /// The set of `n` products of which none is done.
+    pub fn new(alloc: Global, n: u32) -> Result<DoneSet, Memory>
+        ensures { IfOk result (λ d. d ≡ replicate n false) }
+    {
+        Ok(DoneSet {
+            bits: Bits::new(alloc, n)?,
+        })
+    }
+
+    /// Marks a product as done.
+    pub fn mark(&mut self, p: u32)
+        requires { p < length self.old }
+        ensures { self.new ≡ slice_set self.old p true }
+    {
+        self.bits.set(p);
+    }
+
+    /// Whether a product is done.
+    pub fn has(&self, p: u32) -> bool
+        requires { p < length self.now }
+        ensures { slice_get self.now p ≡ Some result }
+    {
+        self.bits.has(p)
+    }
+}
+
+// Whether two products with their uses commute.
+fn commute(p: &Product, u: &Uses, q: &Product, v: &Uses) -> bool
+    requires { length q.now.letters ≡ length p.now.letters }
+    ensures { result ≡ commuting p.now u.now q.now v.now }
+{
+    p.commutes(q) && !u.reads_from(v) && !v.reads_from(u)
+}
+
+// Whether products i and j of the lists commute.
+#[tactic(auto, unfolding(crate::specs::Commuting::commuting_at))]
+fn commute_at(products: &[Product], uses: &[Uses], i: usize, j: usize) -> bool
+    requires i { i < length products.now }
+    requires j { j < length products.now }
+    requires uses { length uses.now ≡ length products.now }
+    requires qubits { OneLength products.now }
+    ensures { result ≡ commuting_at products.now uses.now i j }
+{
+    commute(&products[i], &uses[i], &products[j], &uses[j])
+}
+
+// The row of product p.
+fn row(alloc: Global, products: &[Product], uses: &[Uses], p: usize) -> Result<Bits, Memory>
+    requires within { p < length products.now }
+    requires uses { length uses.now ≡ length products.now }
+    requires few { length products.now ≤ 16384 }
+    requires qubits { OneLength products.now }
+    ensures size { IfOk result (λ row. length row ≡ p + 1) }
+    ensures marks { IfOk result (λ row. (j : ℕ) → j ≤ p → slice_index_or row j false ≡ not (commuting_at products.now uses.now j p)) }
+{
+    let mut row = Bits::new(alloc, p as u32 + 1)?;
+    for j in 0..p + 1 {
+        if !commute_at(products, uses, j, p) {
+            row.set(j as u32);
+        }
+    }
+    Ok(row)
+}
+
+#[cfg(test)]
+mod tests {
+    use super::*;
+    use pauli_product::Letter;
+    use std::test::Fail;
+
+    const NOTHING: Uses = Uses {
+        read_first: 0,
+        read_size: 0,
+        write: None,
+    };
+
+    // Products on one qubit.
+    fn products(alloc: Global, letters: &[Letter]) -> Result<Vec<Product>, Memory>
+        ensures one { IfOk result (λ v. All (OfLength 1) v.items) }
+        ensures size { IfOk result (λ v. length v.items ≡ length letters.now) }
+    {
+        let mut products = Vec::new(alloc);
+        for letter in letters {
+            products.push(Product::new(alloc, false, &[*letter])?)?;
+        }
+        Ok(products)
+    }
+
+    fn order(alloc: Global, letters: &[Letter], uses: &[Uses]) -> Result<Order, Memory>
+        requires same { length uses.now ≡ length letters.now }
+        requires few { length letters.now ≤ 16384 }
+        ensures { IfOk result (λ o. length o ≡ length letters.now) }
+    {
+        let products = products(alloc, letters)?;
+        Order::build(alloc, &products, uses)
+    }
+
+    #[test]
+    fn waits_on_the_least(rt: HostRuntime) -> Result<(), Fail> {
+        let order = order(
+            rt.alloc(),
+            &[Letter::Z, Letter::X, Letter::Z],
+            &[NOTHING; 3],
+        )?;
+        let mut done = DoneSet::new(rt.alloc(), 3)?;
+        assert!(rt; order.commute(0, 2) && !order.commute(0, 1) && !order.commute(2, 1));
+        assert_eq!(rt; order.waits_on(0, &done), None);
+        assert_eq!(rt; order.waits_on(1, &done), Some(0));
+        assert_eq!(rt; order.waits_on(2, &done), Some(1));
+        done.mark(1);
+        assert!(rt; done.has(1) && !done.has(0) && !done.has(2));
+        assert_eq!(rt; order.waits_on(2, &done), None);
+        Ok(())
+    }
+
+    // 130 products of which the last clashes with numbers 0, 70 and 71.
+    fn across_words(alloc: Global) -> Result<Order, Memory>
+        ensures { IfOk result (λ o. length o ≡ 130) }
+    {
+        let mut letters = [Letter::X; 130];
+        letters[0] = Letter::Z;
+        letters[70] = Letter::Y;
+        letters[71] = Letter::Z;
+        order(alloc, &letters, &[NOTHING; 130])
+    }
+
+    #[test]
+    fn passes_words(rt: HostRuntime) -> Result<(), Fail> {
+        let order = across_words(rt.alloc())?;
+        let mut done = DoneSet::new(rt.alloc(), 130)?;
+        assert_eq!(rt; order.waits_on(129, &done), Some(0));
+        done.mark(0);
+        assert_eq!(rt; order.waits_on(129, &done), Some(70));
+        done.mark(70);
+        assert_eq!(rt; order.waits_on(129, &done), Some(71));
+        done.mark(71);
+        assert_eq!(rt; order.waits_on(129, &done), None);
+        Ok(())
+    }
+
+    #[test]
+    fn keeps_writers_before_readers(rt: HostRuntime) -> Result<(), Fail> {
+        let write = Uses {
+            write: Some(2),
+            ..NOTHING
+        };
+        let read = Uses {
+            read_first: 1,
+            read_size: 2,
+            ..NOTHING
+        };
+        let other = Uses {
+            read_first: 3,
+            read_size: 2,
+            ..NOTHING
+        };
+        let order = order(rt.alloc(), &[Letter::Z; 4], &[read, write, read, other])?;
+        let mut done = DoneSet::new(rt.alloc(), 4)?;
+        assert_eq!(rt; order.waits_on(1, &done), Some(0));
+        assert_eq!(rt; order.waits_on(2, &done), Some(1));
+        assert_eq!(rt; order.waits_on(3, &done), None);
+        done.mark(1);
+        assert_eq!(rt; order.waits_on(2, &done), None);
+        Ok(())
+    }
+}
