@@ -1,10 +1,8 @@
 //! Plans lattice surgery: carries a list of Pauli products out on surface-code patches, and writes the schedule.
 #![tactic(auto)]
 
-mod edge;
-
-use edge::{FileShelf, StreamSink};
 use patch_base::{Sink, write_all};
+use real_edge::{ErrSink, FileShelf, OutSink};
 use std::process::ExitCode;
 use std::{env, io};
 use tool_top::tool_main;
@@ -21,7 +19,7 @@ fn refuse(error: &io::Error, err: &mut impl Sink) -> u8 {
 }
 
 fn run(rt: &HostRuntime) -> u8 {
-    let mut err = StreamSink::new(rt.stderr());
+    let mut err = ErrSink::new(rt);
     let args = match env::args(rt) {
         Ok(args) => args,
         Err(error) => return refuse(&error, &mut err),
@@ -31,7 +29,7 @@ fn run(rt: &HostRuntime) -> u8 {
             rt.alloc(),
             &words,
             &mut FileShelf::new(rt),
-            &mut StreamSink::new(rt.stdout()),
+            &mut OutSink::new(rt),
             &mut err,
         ),
         Err(error) => refuse(&io::Error::from(error), &mut err),

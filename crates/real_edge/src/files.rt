@@ -1,10 +1,10 @@
-//! Files and the standard streams as shelves and sinks. They tell nothing of their bytes.
+//! The files of the system.
 
 ghost use Rattle.std.specs.Prelude.{◌≡◌, ◌<◌, ◌≤◌, ◌^◌, length, Option, None, IfOk};
 
-use patch_base::{Failed, Shelf, Sink};
+use patch_base::{Failed, Shelf};
 use std::fs::{self, File};
-use std::io::{self, Read, Seek, SeekFrom, Write};
+use std::io::{self, Read, Seek, SeekFrom};
 
 /// A file that is open at a place.
 #[derive(Drop)]
@@ -28,10 +28,11 @@ impl Reader {
     }
 }
 
-/// The files of the system. One count of faults serves all names.
+/// The files of the system, by their names. One count of faults serves all names.
 #[derive(Drop)]
 pub struct FileShelf<'a> {
     rt: &'a HostRuntime,
+    // The file that was read last.
     last: Option<Reader>,
     faults: u64,
 }
@@ -69,39 +70,6 @@ impl Shelf for FileShelf<'_> {
 
     fn read_at(&mut self, name: &str, at: u64, into: &mut [u8]) -> Result<usize, Failed> {
         match self.read(name, at, into) {
-            Ok(n) => Ok(n),
-            Err(_) => {
-                self.faults = self.faults.saturating_add(1);
-                Err(Failed)
-            }
-        }
-    }
-}
-
-/// A stream of the system, as standard output.
-#[derive(Drop)]
-pub struct StreamSink<W: Write> {
-    stream: W,
-    faults: u64,
-}
-
-impl<W: Write> StreamSink<W> {
-    pub fn new(stream: W) -> StreamSink<W> {
-        StreamSink { stream, faults: 0 }
-    }
-}
-
-impl<W: Write> Sink for StreamSink<W> {
-    ghost taken = { λ sink. None };
-
-    ghost faults = { λ sink. sink.faults };
-
-    fn write(&mut self, bytes: &[u8]) -> Result<usize, Failed> {
-        match self.stream.write(bytes) {
-            Ok(0) if !bytes.is_empty() => {
-                self.faults = self.faults.saturating_add(1);
-                Ok(0)
-            }
             Ok(n) => Ok(n),
             Err(_) => {
                 self.faults = self.faults.saturating_add(1);
