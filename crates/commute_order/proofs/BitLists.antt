@@ -1,14 +1,16 @@
 -- Lists of truth values in words.
-use Rattle.std.proofs.Common.{◌≡◌, ◌≢◌, ℕ, zero, suc, ◌+◌, ◌-◌, ◌*◌, ◌/◌, ◌%◌, ◌^◌, ◌==◌, ◌<◌, ◌≤◌, min, Bool, true, false, inl, inr, List, ◌∷◌, length, get_or, set, replicate, refl, ap, ap₂, subst, nat_lt, sym, ◌∙◌, arith, ext_get_or, zero-add, get_or-set_same, get_or-set_other, eqb-true, eq-eqb, ne_eqb}
+use Rattle.std.proofs.Common.{◌≡◌, ◌≢◌, ℕ, zero, suc, ◌+◌, ◌-◌, ◌*◌, ◌/◌, ◌%◌, ◌^◌, ◌==◌, ◌<◌, ◌≤◌, min, Bool, true, false, inl, inr, List, [], ◌∷◌, length, get_or, set, replicate, refl, ap, ap₂, subst, nat_lt, sym, ◌∙◌, arith, add-one, ext_get_or, zero-add, get_or-set_same, get_or-set_other, eqb-true, eq-eqb, ne_eqb}
 use Rattle.std.proofs.lemmas.List.{length-set, get_or_default}
 use Rattle.std.proofs.lemmas.Bool.{ltb-true, ltb-false}
 use Rattle.std.proofs.lemmas.Bool.{cases_Bool, eqb-false}
 use Rattle.std.proofs.lemmas.Nat.{and_le_l}
 use Rattle.std.specs.Int.{bit_at, bit_not, trailing_zeros}
-use Rattle.std.specs.Int.RustNames.{bit_or}
+use Rattle.std.specs.Int.RustNames.{bit_or, bit_xor}
 use lib.Bits.{bit_and}
 use mir.Syntax.{w64}
-use Rattle.std.proofs.lemmas.Nat.Bits.{bit_at-zero, bit_at-lt, bit_at_and, bit_at_not, bit_at-trailing_zeros, bit_at_set_same, bit_at_set_other, shr_and_one}
+use Rattle.std.proofs.lemmas.Nat.Bits.{bit_at-zero, bit_at-lt, bit_at_and, bit_at_xor, bit_at_not, bit_at-trailing_zeros, bit_at_set_same, bit_at_set_other, shr_and_one}
+use Rattle.std.proofs.lemmas.Bool.Decides.{nat_tests}
+use Rattle.pauli_product.specs.Corrections.{xor}
 use Rattle.commute_order.specs.Words.{bit_of, bits_from, IsOpen}
 
 pub length_bits : (words : List ℕ) (i n : ℕ) → length (bits_from words i n) ≡ n
@@ -189,3 +191,21 @@ module _ (here there : List ℕ) (m n : ℕ) (row done : List Bool) (e : bits_fr
 
     pub past : below ≤ 64 * k + t → (j : ℕ) → j < below → IsOpen row done j → ⊥
     past l j h o = before j (omega arith) (bit_open j h o)
+
+-- ---- words that were flipped
+one_flip : (a b : ℕ) → a < 2 → b < 2 → ((a + b) % 2 == 1) ≡ xor (a == 1) (b == 1)
+one_flip a b h k = grind (arith, nat_tests)
+
+flipped_bit : (x y i : ℕ) → (bit_at (bit_xor x y) i == 1) ≡ xor (bit_at x i == 1) (bit_at y i == 1)
+flipped_bit x y i = ap (λ b. b == 1) (bit_at_xor x y i) ∙ one_flip (bit_at x i) (bit_at y i) (bit_at-lt x i) (bit_at-lt y i)
+
+pub bits_flipped : (words other new : List ℕ) (n m j : ℕ) → j < n → j < m → ((k : ℕ) → k < length words → get_or new k 0 ≡ bit_xor (get_or words k 0) (get_or other k 0)) → n ≤ 64 * length words
+    → get_or (bits_from new 0 n) j false ≡ xor (get_or (bits_from words 0 n) j false) (get_or (bits_from other 0 m) j false)
+bits_flipped words other new n m j h k flip room =
+    let word = flip (j / 64) (omega arith) in
+    bit_get new 0 n j false h
+    ∙ ap (bit_of new) (zero-add j)
+    ∙ ap (λ w. bit_at w (j % 64) == 1) word
+    ∙ flipped_bit (get_or words (j / 64) 0) (get_or other (j / 64) 0) (j % 64)
+    ∙ (λ i. xor (bit_of words (sym (zero-add j) i)) (bit_of other (sym (zero-add j) i)))
+    ∙ (λ i. xor (sym (bit_get words 0 n j false h) i) (sym (bit_get other 0 m j false k) i))

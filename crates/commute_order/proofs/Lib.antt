@@ -1,2 +1,4 @@
 pub mod BitLists
 pub mod Waits
+pub mod ColumnLaws
+pub mod SharingLaws

@@ -20,9 +20,6 @@ commuting_at_swap ps us i j =
     let none : Uses = record { read_first = 0; read_size = 0; write = None } in
     commuting_swap (get_or ps i (plus [])) (get_or us i none) (get_or ps j (plus [])) (get_or us j none)
 
-pub not_not : (b c : Bool) → b ≡ not c → not b ≡ c
-not_not b c e = grind arith
-
 not_true : (c : Bool) → true ≡ not c → c ≡ false
 not_true c e = grind arith
 

@@ -1,2 +1,4 @@
 pub mod Words
 pub mod Commuting
+pub mod Columns
+pub mod Sharing

@@ -1,6 +1,7 @@
 //! Lists of truth values, 64 to a word.
 
-ghost use Rattle.std.specs.Prelude.{◌≡◌, ℕ, ◌<◌, ◌≤◌, true, false, length, replicate, slice_set, slice_index_or, IfOk, MatchOption};
+ghost use Rattle.std.specs.Prelude.{◌≡◌, ℕ, ◌<◌, ◌≤◌, true, false, length, replicate, slice_set, slice_index, slice_index_or, bit_xor, IfOk, MatchOption};
+ghost use Rattle.pauli_product.specs.Corrections.{xor};
 ghost use Rattle.commute_order.specs.Words.{IsOpen};
 
 use patch_base::Memory;
@@ -50,6 +51,15 @@ impl Bits {
         self.words[(i / 64) as usize] |= 1 << (i % 64);
     }
 
+    // Turns round what is set in the other list.
+    pub fn flip_by(&mut self, other: &Bits)
+        requires { length self.old ≤ length other.now }
+        ensures size { length self.new ≡ length self.old }
+        ensures bits { (j : ℕ) → j < length self.old → slice_index_or self.new j false ≡ xor (slice_index_or self.old j false) (slice_index_or other.now j false) }
+    {
+        flip_words(&mut self.words, &other.words);
+    }
+
     // The least number below `below` that is set here and not there.
     pub fn first_open(&self, done: &Bits, below: u32) -> Option<u32>
         requires here { below ≤ length self.now }
@@ -68,6 +78,16 @@ impl Bits {
             }
         }
         None
+    }
+}
+
+fn flip_words(words: &mut [u64], other: &[u64])
+    requires { length words.old ≤ length other.now }
+    ensures size { length words.new ≡ length words.old }
+    ensures flipped { (k : ℕ) → k < length words.old → slice_index words.new k ≡ bit_xor (slice_index words.old k) (slice_index other.now k) }
+{
+    for (k, word) in words.iter_mut().enumerate() {
+        *word ^= other[k];
     }
 }
 

@@ -2,16 +2,22 @@
 #![tactic(auto)]
 
 mod bits;
+mod columns;
+mod users;
 
-ghost use Rattle.std.specs.Prelude.{◌≡◌, ◌≢◌, ℕ, ◌+◌, ◌<◌, ◌≤◌, true, false, not, List, length, replicate, slice_get, slice_set, slice_index_or, Some, IfOk, All};
-ghost use Rattle.pauli_product.specs.Signed.{Signed, OfLength};
+ghost use Rattle.std.specs.Prelude.{◌≡◌, ◌≢◌, ℕ, ◌+◌, ◌<◌, ◌≤◌, true, false, not, List, length, replicate, slice_get, slice_set, slice_index_or, Some, IfOk, OnOk, All, []};
+ghost use Rattle.pauli_product.specs.declared.Letter.TheVariants.{X, Z};
+ghost use Rattle.pauli_product.specs.Signed.{Signed, plus, OfLength, commute};
+ghost use Rattle.commute_order.specs.Columns.{IsColumns};
 ghost use Rattle.commute_order.specs.Commuting.{reads_from, commuting, commuting_at, IsOrder, OneLength, LeastWait};
 
 use bits::Bits;
+use columns::{add_product, clear_columns, mark_clashes};
 use patch_base::Memory;
-use pauli_product::Product;
+use pauli_product::{Letter, Product};
 use std::alloc::Global;
 use std::marker::Model;
+use users::{add_user, mark_uses};
 
 /// The classical bits that a product reads and writes: `read_size` bits from number `read_first`
 /// on, and `write`.
@@ -61,9 +67,18 @@ impl Order {
         requires qubits { OneLength products.now }
         ensures { IfOk result (IsOrder products.now uses.now) }
     {
+        let count = products.len() as u32;
+        let qubits = qubit_count(products);
+        let mut x = clear_columns(alloc, qubits, count)?;
+        let mut z = clear_columns(alloc, qubits, count)?;
+        let mut readers = Vec::new(alloc);
+        let mut users = Vec::new(alloc);
         let mut rows = Vec::with_capacity(alloc, products.len())?;
-        for p in 0..products.len() {
-            rows.push_reserved(row(alloc, products, uses, p)?);
+        for p in 0..count {
+            let mut row = clash_row(alloc, &mut x, &mut z, products, p)?;
+            add_user(&mut readers, &mut users, uses, p)?;
+            mark_uses(uses, &readers, &users, p, &mut row);
+            rows.push_reserved(row);
         }
         Ok(Order { rows })
     }
@@ -132,48 +147,48 @@ impl DoneSet {
     }
 }
 
-// Whether two products with their uses commute.
-fn commute(p: &Product, u: &Uses, q: &Product, v: &Uses) -> bool
-    requires { length q.now.letters ≡ length p.now.letters }
-    ensures { result ≡ commuting p.now u.now q.now v.now }
+// The number of qubits of products on equally many.
+fn qubit_count(products: &[Product]) -> u32
+    requires { OneLength products.now }
+    ensures { All (OfLength result) products.now }
 {
-    p.commutes(q) && !u.reads_from(v) && !v.reads_from(u)
-}
-
-// Whether products i and j of the lists commute.
-#[tactic(auto, unfolding(crate::specs::Commuting::commuting_at))]
-fn commute_at(products: &[Product], uses: &[Uses], i: usize, j: usize) -> bool
-    requires i { i < length products.now }
-    requires j { j < length products.now }
-    requires uses { length uses.now ≡ length products.now }
-    requires qubits { OneLength products.now }
-    ensures { result ≡ commuting_at products.now uses.now i j }
-{
-    commute(&products[i], &uses[i], &products[j], &uses[j])
-}
-
-// The row of product p.
-fn row(alloc: Global, products: &[Product], uses: &[Uses], p: usize) -> Result<Bits, Memory>
-    requires within { p < length products.now }
-    requires uses { length uses.now ≡ length products.now }
-    requires few { length products.now ≤ 16384 }
-    requires qubits { OneLength products.now }
-    ensures size { IfOk result (λ row. length row ≡ p + 1) }
-    ensures marks { IfOk result (λ row. (j : ℕ) → j ≤ p → slice_index_or row j false ≡ not (commuting_at products.now uses.now j p)) }
-{
-    let mut row = Bits::new(alloc, p as u32 + 1)?;
-    for j in 0..p + 1 {
-        if !commute_at(products, uses, j, p) {
-            row.set(j as u32);
-        }
+    if products.is_empty() {
+        0
+    } else {
+        products[0].len()
     }
+}
+
+// Adds product p to the columns, and marks in its row those up to itself whose axes don't commute
+// with its own.
+fn clash_row(
+    alloc: Global,
+    x: &mut Vec<Bits>,
+    z: &mut Vec<Bits>,
+    products: &[Product],
+    p: u32,
+) -> Result<Bits, Memory>
+    requires within { p < length products.now }
+    requires few { length products.now ≤ 16384 }
+    requires qubits { All (OfLength (length x.old.items)) products.now }
+    requires x { IsColumns X products.now p (length x.old.items) (length products.now) x.old.items }
+    requires z { IsColumns Z products.now p (length x.old.items) (length products.now) z.old.items }
+    ensures x { OnOk result (IsColumns X products.now (p + 1) (length x.old.items) (length products.now) x.new.items) }
+    ensures z { OnOk result (IsColumns Z products.now (p + 1) (length x.old.items) (length products.now) z.new.items) }
+    ensures size { IfOk result (λ row. length row ≡ p + 1) }
+    ensures marks { IfOk result (λ row. (j : ℕ) → j ≤ p → slice_index_or row j false ≡ not (commute (slice_index_or products.now j (plus [])) (slice_index_or products.now p (plus [])))) }
+{
+    let product = &products[p as usize];
+    add_product(x, Letter::X, product, p);
+    add_product(z, Letter::Z, product, p);
+    let mut row = Bits::new(alloc, p + 1)?;
+    mark_clashes(x, z, product, p, products.len() as u32, &mut row);
     Ok(row)
 }
 
 #[cfg(test)]
 mod tests {
     use super::*;
-    use pauli_product::Letter;
     use std::test::Fail;
 
     const NOTHING: Uses = Uses {
