@@ -2,3 +2,4 @@ pub mod BitLists
 pub mod Waits
 pub mod ColumnLaws
 pub mod SharingLaws
+pub mod WriterLists

@@ -1,26 +1,26 @@
--- Which products use bits, and which of them share one.
-use Rattle.std.specs.Prelude.{◌≡◌, ℕ, ◌<◌, Bool, true, false, ◌||◌, nat_lt, List, slice_index_or, Option, Some, None, Contains, All}
+-- Which products write bits, and what is marked of those that share one.
+use Rattle.std.specs.Prelude.{◌≡◌, ℕ, ◌+◌, ◌==◌, ◌<◌, Bool, true, false, ◌&&◌, ◌||◌, List, [], length, slice_index_or, Some, Contains, All}
 use Rattle.commute_order.specs.declared.Uses.{Uses}
+use Rattle.commute_order.specs.declared.sharing.Writer.{Writer}
 use Rattle.commute_order.specs.Commuting.{reads_from}
 
 -- one reads a bit that the other writes
 unfoldable pub shares_bit : Uses → Uses → Bool
 shares_bit u v = reads_from u v || reads_from v u
 
--- whether there is a bit
-abbrev pub is_bit : Option ℕ → Bool
-is_bit None = false
-is_bit (Some bit) = true
+-- writers of the bits that their products write, among them each of the first `count`
+pub record ListsWriters (us : List Uses) (count : ℕ) (writers : List Writer) : Type 0 where
+  pub writes : All (λ w. (w.product < length us) × ((d : Uses) → (slice_index_or us w.product d).write ≡ Some w.bit)) writers
+  pub each : (p bit : ℕ) (d : Uses) → p < count → (slice_index_or us p d).write ≡ Some bit → Contains writers (record { bit = bit; product = p })
 
--- whether any bit is read
-abbrev pub reads_bits : Uses → Bool
-reads_bits u = nat_lt 0 u.read_size
+-- each row has a place for each product up to its own
+abbrev pub IsTriangle : List (List Bool) → Type 0
+IsTriangle rows = (p : ℕ) → p < length rows → length (slice_index_or rows p []) ≡ p + 1
 
--- whether any bit is read or written
-abbrev pub uses_bits : Uses → Bool
-uses_bits u = reads_bits u || is_bit u.write
+-- whether product j is marked in the row of p
+abbrev pub mark : List (List Bool) → ℕ → ℕ → Bool
+mark rows p j = slice_index_or (slice_index_or rows p []) j false
 
--- numbers below `count`, among them each of those whose uses pass the test
-pub record IsListOf (test : Uses → Bool) (us : List Uses) (count : ℕ) (numbers : List ℕ) : Type 0 where
-  pub within : All (λ j. j < count) numbers
-  pub each : (j : ℕ) (d : Uses) → j < count → test (slice_index_or us j d) ≡ true → Contains numbers j
+-- whether one of p and j is r, and the other passes the test
+abbrev pub pair_with : (ℕ → Bool) → ℕ → ℕ → ℕ → Bool
+pair_with test r p j = ((j == r) && test p) || ((p == r) && test j)

@@ -3,21 +3,22 @@
 
 mod bits;
 mod columns;
-mod users;
+mod sharing;
 
 ghost use Rattle.std.specs.Prelude.{◌≡◌, ◌≢◌, ℕ, ◌+◌, ◌<◌, ◌≤◌, true, false, not, List, length, replicate, slice_get, slice_set, slice_index_or, Some, IfOk, OnOk, All, []};
 ghost use Rattle.pauli_product.specs.declared.Letter.TheVariants.{X, Z};
 ghost use Rattle.pauli_product.specs.Signed.{Signed, plus, OfLength, commute};
 ghost use Rattle.commute_order.specs.Columns.{IsColumns};
-ghost use Rattle.commute_order.specs.Commuting.{reads_from, commuting, commuting_at, IsOrder, OneLength, LeastWait};
+ghost use Rattle.commute_order.specs.Sharing.{IsTriangle, mark};
+ghost use Rattle.commute_order.specs.Commuting.{commuting_at, IsOrder, OneLength, LeastWait};
 
 use bits::Bits;
 use columns::{add_product, clear_columns, mark_clashes};
 use patch_base::Memory;
 use pauli_product::{Letter, Product};
+use sharing::mark_sharing;
 use std::alloc::Global;
 use std::marker::Model;
-use users::{add_user, mark_uses};
 
 /// The classical bits that a product reads and writes: `read_size` bits from number `read_first`
 /// on, and `write`.
@@ -26,17 +27,6 @@ pub struct Uses {
     pub read_first: u32,
     pub read_size: u32,
     pub write: Option<u32>,
-}
-
-impl Uses {
-    fn reads_from(&self, other: &Uses) -> bool
-        ensures { result ≡ reads_from self.now other.now }
-    {
-        match other.write {
-            None => false,
-            Some(bit) => self.read_first <= bit && bit - self.read_first < self.read_size,
-        }
-    }
 }
 
 /// For each product, which ones up to itself it doesn't commute with.
@@ -67,19 +57,8 @@ impl Order {
         requires qubits { OneLength products.now }
         ensures { IfOk result (IsOrder products.now uses.now) }
     {
-        let count = products.len() as u32;
-        let qubits = qubit_count(products);
-        let mut x = clear_columns(alloc, qubits, count)?;
-        let mut z = clear_columns(alloc, qubits, count)?;
-        let mut readers = Vec::new(alloc);
-        let mut users = Vec::new(alloc);
-        let mut rows = Vec::with_capacity(alloc, products.len())?;
-        for p in 0..count {
-            let mut row = clash_row(alloc, &mut x, &mut z, products, p)?;
-            add_user(&mut readers, &mut users, uses, p)?;
-            mark_uses(uses, &readers, &users, p, &mut row);
-            rows.push_reserved(row);
-        }
+        let mut rows = clash_rows(alloc, products)?;
+        mark_sharing(alloc, &mut rows, uses)?;
         Ok(Order { rows })
     }
 
@@ -184,6 +163,25 @@ fn clash_row(
     let mut row = Bits::new(alloc, p + 1)?;
     mark_clashes(x, z, product, p, products.len() as u32, &mut row);
     Ok(row)
+}
+
+// For each product a row that marks those up to itself whose axes don't commute with its own.
+fn clash_rows(alloc: Global, products: &[Product]) -> Result<Vec<Bits>, Memory>
+    requires few { length products.now ≤ 16384 }
+    requires qubits { OneLength products.now }
+    ensures size { IfOk result (λ rows. length rows.items ≡ length products.now) }
+    ensures long { IfOk result (λ rows. IsTriangle rows.items) }
+    ensures marks { IfOk result (λ rows. (p j : ℕ) → p < length products.now → j ≤ p → mark rows.items p j ≡ not (commute (slice_index_or products.now j (plus [])) (slice_index_or products.now p (plus [])))) }
+{
+    let count = products.len() as u32;
+    let qubits = qubit_count(products);
+    let mut x = clear_columns(alloc, qubits, count)?;
+    let mut z = clear_columns(alloc, qubits, count)?;
+    let mut rows = Vec::with_capacity(alloc, products.len())?;
+    for p in 0..count {
+        rows.push_reserved(clash_row(alloc, &mut x, &mut z, products, p)?);
+    }
+    Ok(rows)
 }
 
 #[cfg(test)]

@@ -1,61 +1,24 @@
-use Rattle.std.proofs.Common.{◌≡◌, ℕ, ◌+◌, ◌<◌, ◌≤◌, ◌||◌, Bool, false, not, List, [], ◌∷◌, ◌++◌, length, get_or, ap, sym, subst, ◌∙◌, arith, below_more, length-append}
-use Rattle.std.proofs.lemmas.List.{get_or_append_left, get_or_push}
-use Rattle.pauli_product.specs.declared.Letter.TheVariants.{X, Z}
-use Rattle.pauli_product.specs.Signed.{plus, commute}
-use Rattle.commute_order.specs.Commuting.{commuting_at}
-use Rattle.commute_order.specs.Columns.{IsColumns}
-use Rattle.commute_order.specs.Sharing.{shares_bit, reads_bits, uses_bits}
-use Rattle.commute_order.proofs.SharingLaws.{none_listed, row_mark, no_uses}
+use Rattle.std.proofs.Common.{◌≡◌, ◌||◌, Bool, List, length, ap, sym, subst, ◌∙◌, get_or, arith}
+use Rattle.std.proofs.lemmas.List.{with_items_is}
+use Rattle.commute_order.specs.Commuting.{IsOrder}
+use Rattle.commute_order.specs.Sharing.{IsTriangle, mark, shares_bit}
+use Rattle.commute_order.proofs.SharingLaws.{no_uses, row_mark}
 use Rattle.commute_order.proofs.Order.build.Goals as goal
 
-pub loop-p-init : goal.loop-p-init
-loop-p-init c =
-    let us = c.args.uses.now in
-    record {
-      size = ap length c.in_ok-rows.ensures.items;
-      long = λ q h. absurd (omega arith);
-      marks = λ q h j k. absurd (omega arith);
-      room = omega (arith, c.in_ok-rows.ensures.capacity, c.in_ok-rows.ensures.len);
-      qubits = (c.in_ok-x.ensures X c.args.products.now).size;
-      all = c.qubit_count-qubits.ensures;
-      x = c.in_ok-x.ensures X c.args.products.now;
-      z = c.in_ok-z.ensures Z c.args.products.now;
-      readers = none_listed reads_bits us c.new-readers.result.items c.new-readers.ensures.items;
-      users = none_listed uses_bits us c.new-users.result.items c.new-users.ensures.items;
-    }
-
-pub loop-p-preserved : goal.loop-p-preserved
-loop-p-preserved c =
+pub returns : goal.returns
+returns c =
     let ps = c.args.products.now in
     let us = c.args.uses.now in
-    let p = c.loop-p.p in
-    let n = c.qubit_count-qubits.result in
-    let m = c.loop-p.invariant in
-    let old = c.loop-p.rows.items in
-    let new = c.push_reserved.new.self.items in
-    let row = c.mark_uses.new.row in
-    let pushed : new ≡ old ++ row ∷ [] = c.push_reserved.ensures.items in
-    let room : p < length ps = c.loop-p-test.true in
-    let xs = c.in_ok-row.ensures.x in
-    let zs = c.in_ok-row.ensures.z in
-    let before : (q : ℕ) → q < p → get_or new q [] ≡ get_or old q [] = λ q k. ap (λ (rows : List (List Bool)). get_or rows q []) pushed ∙ get_or_append_left old (row ∷ []) [] q (omega (arith, m.size)) in
-    let last : get_or new p [] ≡ row = ap (λ (rows : List (List Bool)). get_or rows p []) pushed ∙ get_or_push old row [] p m.size in
-    let mark : (j : ℕ) → j ≤ p → get_or row j false ≡ not (commuting_at ps us j p) = λ j k.
-    c.mark_uses.ensures.marks j no_uses k
-    ∙ ap (λ b. b || shares_bit (get_or us j no_uses) (get_or us p no_uses)) (c.in_ok-row.ensures.marks j k)
-    ∙ row_mark ps us j p in
-    record {
-      size = omega (arith, ap length pushed, length-append old (row ∷ []));
-      long = below_more (λ q. length (get_or new q []) ≡ q + 1) p (λ q k. ap length (before q k) ∙ m.long q k) (ap length last ∙ c.mark_uses.ensures.size);
-      marks =
-          below_more (λ q. (j : ℕ) → j ≤ q → get_or (get_or new q []) j false ≡ not (commuting_at ps us j q)) p
-          (λ q k j l. ap (λ (r : List Bool). get_or r j false) (before q k) ∙ m.marks q k j l)
-          (λ j l. ap (λ (r : List Bool). get_or r j false) last ∙ mark j l);
-      room = omega (arith, c.push_reserved.ensures.len, c.push_reserved.ensures.capacity, m.room, m.size);
-      qubits = xs.size ∙ m.qubits;
-      all = m.all;
-      x = subst (λ k. IsColumns X ps (p + 1) k (length ps) c.clash_row.new.x.items) m.qubits xs;
-      z = subst (λ k. IsColumns Z ps (p + 1) k (length ps) c.clash_row.new.z.items) m.qubits zs;
-      readers = c.in_ok-add_user.ensures.readers;
-      users = c.in_ok-add_user.ensures.users;
-    }
+    let rows = c.in_ok-rows.rows.items in
+    let new = c.mark_sharing.new.rows in
+    let value = c.deref_mut.ensures.value in
+    let size : length new ≡ length rows = c.mark_sharing.auto.rows ∙ ap length value in
+    let is = with_items_is c.in_ok-rows.rows new (size ∙ sym c.in_ok-rows.rows.ok.0) in
+    subst (IsOrder ps us) (sym is)
+    (record {
+      size = size ∙ c.in_ok-rows.ensures.size;
+      row = λ p j h k.
+          c.in_ok-mark_sharing.ensures.marks p j no_uses k (omega (arith, c.requires.uses))
+          ∙ ap (λ b. b || shares_bit (get_or us j no_uses) (get_or us p no_uses)) (ap (λ (r : List (List Bool)). mark r p j) value ∙ c.in_ok-rows.ensures.marks p j h k)
+          ∙ row_mark ps us j p;
+    })
