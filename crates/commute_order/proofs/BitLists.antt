@@ -1,5 +1,5 @@
 -- Lists of truth values in words.
-use Rattle.std.proofs.Common.{◌≡◌, ◌≢◌, ℕ, zero, suc, ◌+◌, ◌-◌, ◌*◌, ◌/◌, ◌%◌, ◌^◌, ◌==◌, ◌<◌, ◌≤◌, min, Bool, true, false, inl, inr, List, [], ◌∷◌, length, get_or, set, replicate, refl, ap, ap₂, subst, nat_lt, sym, ◌∙◌, arith, add-one, ext_get_or, zero-add, get_or-set_same, get_or-set_other, eqb-true, eq-eqb, ne_eqb}
+use Rattle.std.proofs.Common.{◌≡◌, ◌≢◌, ℕ, zero, suc, ◌+◌, ◌-◌, ◌*◌, ◌/◌, ◌%◌, ◌^◌, ◌==◌, ◌<◌, ◌≤◌, min, Bool, true, false, inl, inr, List, ◌∷◌, length, get_or, set, replicate, refl, ap, ap₂, subst, nat_lt, sym, ◌∙◌, arith, ext_get_or, zero-add, get_or-set_same, get_or-set_other, eqb-true, eq-eqb, ne_eqb}
 use Rattle.std.proofs.lemmas.List.{length-set, get_or_default}
 use Rattle.std.proofs.lemmas.Bool.{ltb-true, ltb-false}
 use Rattle.std.proofs.lemmas.Bool.{cases_Bool, eqb-false}

@@ -1,10 +1,10 @@
 -- Parities of clashes, and columns.
-use Rattle.std.proofs.Common.{◌≡◌, ℕ, zero, suc, ◌+◌, ◌%◌, ◌==◌, ◌<◌, ◌≤◌, Bool, true, false, not, ◌&&◌, if◌then◌else◌, inl, inr, nat_lt, List, [], ◌∷◌, length, take, get_or, set, refl, ap, sym, ◌∙◌, arith, add-one, get_or-set_same, get_or-set_other}
-use Rattle.std.proofs.lemmas.Bool.{cases_Bool, eqb-false, eqb-true, ltb-true, ltb-false}
+use Rattle.std.proofs.Common.{◌≡◌, ℕ, zero, suc, ◌+◌, ◌%◌, ◌==◌, ◌<◌, Bool, true, false, not, ◌&&◌, if◌then◌else◌, inl, inr, nat_lt, List, [], ◌∷◌, length, take, get_or, set, refl, ap, sym, ◌∙◌, arith, add-one, get_or-set_same, get_or-set_other}
+use Rattle.std.proofs.lemmas.Bool.{cases_Bool, eqb-false, eqb-true}
 use Rattle.std.proofs.lemmas.Bool.Decides.{nat_tests}
 use Rattle.std.proofs.lemmas.List.{length-set}
 use Rattle.pauli_product.specs.declared.Letter.{Letter}
-use Rattle.pauli_product.specs.declared.Letter.TheVariants.{I, X, Y, Z}
+use Rattle.pauli_product.specs.declared.Letter.TheVariants.{I, X, Z}
 use Rattle.pauli_product.specs.Letters.{letters_clash}
 use Rattle.pauli_product.specs.Signed.{Signed, plus, clashes, commute}
 use Rattle.pauli_product.specs.Corrections.{xor}

@@ -1,5 +1,5 @@
 -- Marks of pairs of products that share a bit.
-use Rattle.std.proofs.Common.{◌≡◌, ◌≢◌, ℕ, ◌+◌, ◌-◌, ◌==◌, ◌<◌, ◌≤◌, max, min, Bool, true, false, not, ◌&&◌, ◌||◌, inl, inr, ◌⊎◌, nat_lt, nat_le, Option, Some, None, All, Contains, List, [], ◌∷◌, ◌++◌, length, take, drop, get_or, set, refl, ap, ap₂, sym, ◌∙◌, arith, subst, get_or-set_same, get_or-set_other, eq-eqb, length-take, take_all}
+use Rattle.std.proofs.Common.{◌≡◌, ◌≢◌, ℕ, ◌+◌, ◌==◌, ◌<◌, ◌≤◌, max, min, Bool, true, false, not, ◌&&◌, ◌||◌, inl, inr, ◌⊎◌, nat_lt, nat_le, Option, Some, None, All, Contains, List, [], ◌∷◌, ◌++◌, length, take, get_or, set, refl, ap, ap₂, sym, ◌∙◌, arith, subst, get_or-set_same, get_or-set_other, eq-eqb, length-take}
 use Rattle.std.proofs.lemmas.Bool.{cases_Bool, eqb-false, eqb-true}
 use Rattle.std.proofs.lemmas.Bool.Decides.{nat_tests}
 use Rattle.std.proofs.lemmas.List.{take_more, length-set}

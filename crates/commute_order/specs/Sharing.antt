@@ -1,5 +1,5 @@
 -- Which products write bits, and what is marked of those that share one.
-use Rattle.std.specs.Prelude.{◌≡◌, ℕ, ◌+◌, ◌==◌, ◌<◌, Bool, true, false, ◌&&◌, ◌||◌, List, [], length, slice_index_or, Some, Contains, All}
+use Rattle.std.specs.Prelude.{◌≡◌, ℕ, ◌+◌, ◌==◌, ◌<◌, Bool, false, ◌&&◌, ◌||◌, List, [], length, slice_index_or, Some, Contains, All}
 use Rattle.commute_order.specs.declared.Uses.{Uses}
 use Rattle.commute_order.specs.declared.sharing.Writer.{Writer}
 use Rattle.commute_order.specs.Commuting.{reads_from}

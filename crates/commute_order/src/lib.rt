@@ -51,6 +51,9 @@ impl Model for Order {
 
 impl Order {
     /// The order of at most 16,384 products on equally many qubits, and what each of them uses.
+    ///
+    /// Takes a step for each letter and 64 earlier products, and one for each pair that shares a
+    /// bit; of memory, a bit for each pair of products and two for each product and qubit.
     pub fn build(alloc: Global, products: &[Product], uses: &[Uses]) -> Result<Order, Memory>
         requires uses { length uses.now ≡ length products.now }
         requires few { length products.now ≤ 16384 }

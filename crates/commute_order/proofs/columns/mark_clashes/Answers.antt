@@ -1,8 +1,8 @@
-use Rattle.std.proofs.Common.{◌≡◌, ℕ, ◌+◌, ◌<◌, ◌≤◌, Bool, false, List, [], length, take, get_or, refl, ap, sym, ◌∙◌, arith, take_all}
+use Rattle.std.proofs.Common.{◌≡◌, ◌+◌, ◌<◌, false, [], length, get_or, refl, ◌∙◌, arith, take_all}
 use Rattle.std.proofs.lemmas.List.{get_or_read}
 use Rattle.std.proofs.lemmas.Option.{get_or_from_slice_get}
 use Rattle.pauli_product.specs.declared.Letter.TheVariants.{I}
-use Rattle.pauli_product.specs.Signed.{Signed, plus}
+use Rattle.pauli_product.specs.Signed.{plus}
 use Rattle.pauli_product.specs.Corrections.{xor}
 use Rattle.commute_order.specs.Columns.{clash_bit}
 use Rattle.commute_order.proofs.ColumnLaws.{odd, odd_commute, next_mark}

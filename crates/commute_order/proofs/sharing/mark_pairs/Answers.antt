@@ -1,4 +1,4 @@
-use Rattle.std.proofs.Common.{◌≡◌, ℕ, ◌+◌, ◌<◌, ◌≤◌, max, min, List, length, take, get_or, refl, sym, ap, subst, ◌∙◌, arith, take_all, Contains}
+use Rattle.std.proofs.Common.{◌+◌, ◌<◌, max, min, List, length, get_or, refl, sym, subst, arith, take_all, Contains}
 use Rattle.std.proofs.lemmas.List.{get_or_default}
 use Rattle.commute_order.specs.declared.sharing.Writer.{Writer}
 use Rattle.commute_order.proofs.SharingLaws.{MarkedWith, marked_more}

@@ -1,4 +1,4 @@
-use Rattle.std.proofs.Common.{◌≡◌, ℕ, ◌<◌, ◌≤◌, ◌||◌, length, ap, ◌∙◌, arith}
+use Rattle.std.proofs.Common.{◌||◌, ap, ◌∙◌, arith}
 use Rattle.commute_order.specs.Sharing.{mark}
 use Rattle.commute_order.proofs.SharingLaws.{more_marks, all_readers}
 use Rattle.commute_order.proofs.sharing.mark_readers.Goals as goal

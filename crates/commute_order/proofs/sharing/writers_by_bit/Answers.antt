@@ -1,6 +1,5 @@
 use Rattle.std.proofs.Common.{rules}
-use Rattle.std.proofs.lemmas.List.Sorted.{IsNonDecreasingBy-from_sort_by_key, All-permutation, Contains-permutation}
-use Rattle.commute_order.specs.declared.sharing.Writer.{Writer}
+use Rattle.std.proofs.lemmas.List.Sorted.{IsNonDecreasingBy-from_sort_by_key}
 use Rattle.commute_order.proofs.WriterLists.{reordered}
 use Rattle.commute_order.proofs.sharing.writers_by_bit.Goals as goal
 

@@ -1,4 +1,4 @@
-use Rattle.std.proofs.Common.{◌≡◌, ℕ, ◌<◌, ◌≤◌, Bool, false, List, length, get_or, ap, sym, ◌∙◌, arith}
+use Rattle.std.proofs.Common.{ℕ, ◌<◌, false, List, length, get_or, ap, sym, ◌∙◌, arith}
 use Rattle.std.specs.Int.RustNames.{bit_xor}
 use Rattle.std.proofs.lemmas.List.{with_items_is}
 use Rattle.pauli_product.specs.Corrections.{xor}
