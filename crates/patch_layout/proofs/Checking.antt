@@ -1,5 +1,5 @@
 -- The sides that are asked for against the touches, side by side.
-use Rattle.std.proofs.Common.{◌≡◌, ◌≢◌, ℕ, zero, suc, ◌+◌, ◌-◌, ◌*◌, ◌<◌, ◌≤◌, ◌↔◌, inl, inr, length, slice_get, drop, Option, Some, None, List, [], ◌∷◌, ◌++◌, refl, sym, subst, arith, IsTrue, IfNone, Bool, true, false, append_assoc, length-append}
+use Rattle.std.proofs.Common.{◌≡◌, ◌≢◌, ℕ, zero, suc, ◌+◌, ◌-◌, ◌*◌, ◌<◌, ◌≤◌, ◌↔◌, inl, inr, length, slice_get, drop, Option, Some, None, List, [], ◌∷◌, ◌++◌, refl, sym, subst, arith, IsTrue, IfNone, Bool, true, false, length-append}
 use Rattle.std.proofs.lemmas.Option.{slice_get_within}
 use Rattle.std.proofs.lemmas.List.{append-nil}
 use Rattle.std.proofs.Math.ListN.{drop_of_length-le}
@@ -81,9 +81,6 @@ pub record UpTo (g : Grid) (cells touches : List ℕ) (letters : List Letter) (q
   pub few : place ≤ 2 * q
   pub split : sides_from 0 letters ≡ before ++ sides_from q (drop q letters)
   pub fits : BadFrom g cells touches 0 before None
-
-pub up_to_none : (g : Grid) (cells touches : List ℕ) (letters : List Letter) → UpTo g cells touches letters 0 0
-up_to_none g cells touches letters = record { before = []; size = refl; few = omega arith; split = refl; fits = λ i s is. absurd (cc) }
 
 pub up_to_more : (g : Grid) (cells touches : List ℕ) (letters : List Letter) (q place n : ℕ) (l : Letter) → UpTo g cells touches letters q place → slice_get letters q ≡ Some l
     → BadFrom g cells touches place (sides_of q l) None → n ≡ length (sides_of q l) → n ≤ 2 → UpTo g cells touches letters (q + 1) (place + n)

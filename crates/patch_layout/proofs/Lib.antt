@@ -14,3 +14,10 @@ pub mod Certifying
 pub mod Rows
 pub mod Whole
 pub mod Checking
+pub mod Opening
+pub mod Spelled
+pub mod Bodies
+pub mod Laying
+pub mod Refusing
+pub mod Once
+pub mod Causes

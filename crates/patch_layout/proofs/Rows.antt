@@ -1,5 +1,5 @@
 -- The row layout: its cells, and that it is sound and open.
-use Rattle.std.proofs.Common.{◌≡◌, ◌≢◌, ℕ, zero, suc, Bool, true, false, ◌+◌, ◌-◌, ◌*◌, ◌%◌, ◌<◌, ◌≤◌, ◌⊎◌, inl, inr, length, slice_get, replicate, Option, Some, None, List, [], ◌∷◌, ◌++◌, refl, sym, subst, ap, arith, min, Contains, append_assoc, length-append, lit<}
+use Rattle.std.proofs.Common.{◌≡◌, ◌≢◌, ℕ, zero, suc, Bool, true, ◌+◌, ◌-◌, ◌*◌, ◌%◌, ◌<◌, ◌≤◌, ◌⊎◌, inl, inr, length, slice_get, replicate, Option, Some, List, [], ◌∷◌, ◌++◌, refl, sym, subst, ap, arith, min, Contains, append_assoc, length-append, lit<}
 use Rattle.std.proofs.lemmas.Option.{slice_get_within}
 use Rattle.std.proofs.lemmas.List.{length-replicate}
 use Rattle.std.proofs.lemmas.Bool.{cases_lt}
@@ -8,7 +8,7 @@ use Rattle.patch_layout.specs.declared.layout.Edge.{Edge}
 use Rattle.patch_layout.specs.declared.layout.Edge.TheVariants as edge
 use Rattle.patch_layout.specs.declared.layout.Site.{Site}
 use Rattle.patch_layout.specs.declared.layout.Site.TheVariants as site
-use Rattle.patch_layout.specs.Grid.{Grid, Sound, Open, Wanted, IsAncilla, IsPatch, IsPort, Adjacent, Joins, Leads, OnPatch, OnPort, sides, sides_at, ancilla, if_ancilla, left, right, above, below}
+use Rattle.patch_layout.specs.Grid.{Grid, Sound, Open, IsAncilla, IsPatch, IsPort, Adjacent, Joins, OnPatch, OnPort, sides, sides_at, ancilla, if_ancilla, left, right, above, below}
 use Rattle.patch_layout.specs.Kept.{Ranged, grid_of}
 use Rattle.patch_layout.specs.Row.{patch_row, row_grid, wanted, IsUsed}
 use Rattle.patch_layout.proofs.Places.{same_entry}

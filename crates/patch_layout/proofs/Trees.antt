@@ -98,7 +98,7 @@ named_more cells queue places parents n d t at' sizes in' named k r b i j kn er 
           subst U (sym r-is) (subst V i-is (subst W j-is (get_set_here parents (get_or places r0.cell 0) new in-parents)))
     ]
 
-only : (c x : ℕ) → Contains (c ∷ []) x → c ≡ x
+pub only : (c x : ℕ) → Contains (c ∷ []) x → c ≡ x
 only c x (zero, b, e) = e
 only c x (suc k, b, e) = absurd (omega arith)
 

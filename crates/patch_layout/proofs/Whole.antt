@@ -1,21 +1,19 @@
 -- All ancilla cells: a region that fits, in ascending order.
-use Rattle.std.proofs.Common.{◌≡◌, ◌≢◌, ℕ, zero, suc, Bool, true, false, ◌+◌, ◌-◌, ◌<◌, ◌≤◌, inl, inr, length, slice_get, drop, get_or, Option, Some, None, List, [], ◌∷◌, ◌++◌, refl, sym, subst, ap, arith, All, AllPairs, Contains, append_assoc, ◌∙◌}
-use Rattle.std.proofs.lemmas.Option.{slice_get_within, slice_get-get_or, get_or_from_slice_get}
+use Rattle.std.proofs.Common.{◌≡◌, ◌≢◌, ℕ, zero, suc, Bool, true, false, ◌+◌, ◌-◌, ◌<◌, ◌≤◌, length, slice_get, drop, get_or, Option, Some, None, List, [], ◌∷◌, ◌++◌, refl, sym, subst, ap, arith, All, Contains, append_assoc, ◌∙◌}
+use Rattle.std.proofs.lemmas.Option.{slice_get-get_or}
 use Rattle.std.proofs.lemmas.List.Elements.{All-cons}
 use Rattle.pauli_product.specs.declared.Letter.{Letter}
 use Rattle.pauli_product.specs.declared.Letter.TheVariants as letter
-use Rattle.pauli_product.specs.Signed.{Signed}
 use Rattle.patch_layout.specs.declared.layout.Edge.{Edge}
 use Rattle.patch_layout.specs.declared.layout.Edge.TheVariants as edge
 use Rattle.patch_layout.specs.declared.layout.Side.{Side}
 use Rattle.patch_layout.specs.declared.layout.Side.TheVariants as side
 use Rattle.patch_layout.specs.declared.layout.Site.{Site}
 use Rattle.patch_layout.specs.declared.layout.Site.TheVariants as site
-use Rattle.patch_layout.specs.Grid.{Grid, Open, Wanted, IsAncilla, Leads, Joins, OnPatch, OnPort, sides, sides_at, beside, lies_level, ancilla, if_ancilla, left, right, above, below}
-use Rattle.patch_layout.specs.Region.{Fit, OnSide, Touches, sides_of, sides_from, port_side, wanted_sides}
-use Rattle.patch_layout.specs.Case.{Ascending}
-use Rattle.patch_layout.specs.Row.{ancilla_from, ancilla_cells, StandsAtUsed, HasNamed, WholeFits, WholeAscends, WholeIsAncilla, IsUsed}
-use Rattle.patch_layout.proofs.Places.{same_entry, get_below, Contains_from_get, get_from_Contains}
+use Rattle.patch_layout.specs.Grid.{Grid, Open, Wanted, IsAncilla, sides_at, beside, lies_level, ancilla, if_ancilla, left, right, above, below}
+use Rattle.patch_layout.specs.Region.{OnSide, Touches, sides_of, sides_from, port_side}
+use Rattle.patch_layout.specs.Row.{ancilla_from, ancilla_cells, HasNamed, WholeFits, WholeAscends, WholeIsAncilla, IsUsed}
+use Rattle.patch_layout.proofs.Places.{get_below, Contains_from_get, get_from_Contains}
 use Rattle.patch_layout.proofs.Asked.{drop_get}
 use Rattle.patch_layout.proofs.OnSides.{none_on}
 use Rattle.patch_layout.proofs.Fits.{cells_distinct}

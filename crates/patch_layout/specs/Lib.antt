@@ -8,3 +8,6 @@ pub mod Tree
 pub mod Case
 pub mod Row
 pub mod Look
+pub mod Openness
+pub mod LayoutText
+pub mod Reading

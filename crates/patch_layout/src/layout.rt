@@ -257,6 +257,13 @@ impl Layout {
         entry(&self.ports, factory)
     }
 
+    /// A number above all factories that have a port.
+    pub(crate) fn factories(&self) -> u32
+        ensures { (f c : ℕ) → IsPort self.now f c → f < result }
+    {
+        self.ports.len() as u32
+    }
+
     /// The ancilla cells that lie on a side.
     pub fn side(&self, side: Side) -> [Option<u32>; 2]
         ensures value { (d : ℕ) → Contains result (Some d) ↔ OnSide self.now side d }

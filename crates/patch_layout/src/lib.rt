@@ -5,8 +5,13 @@ mod certifier;
 mod checker;
 mod fault;
 mod layout;
+mod line;
 mod look;
+mod openness;
 mod plan;
+#[cfg(test)]
+mod read_tests;
+mod reader;
 mod row;
 mod tables;
 #[cfg(test)]

@@ -2,16 +2,20 @@
 
 ghost use Rattle.std.specs.Prelude.{◌≡◌, ◌<◌, ◌^◌, length, IfOk};
 
+use crate::certifier::certify;
+use crate::checker::check;
 use crate::fault::LayoutFault;
 use crate::layout::{Edge, Layout, Tile};
-use crate::plan::CellList;
+use crate::look::Look;
+use crate::plan::{CellList, Fault};
 use crate::row::{law_whole_fits, whole_region};
 use patch_base::{Memory, Need, Used};
+use pauli_product::{Letter, Product};
 use std::alloc::Global;
 use std::test::Fail;
 
 // What a circuit needs that uses these qubits.
-fn need(alloc: Global, used: &[bool], rotations: bool) -> Result<Need, Memory>
+pub fn need(alloc: Global, used: &[bool], rotations: bool) -> Result<Need, Memory>
     requires { length used.now < 2 ^ 32 }
     ensures { IfOk result (λ need. length need.used ≡ need.qubits) }
 {
@@ -25,7 +29,7 @@ fn need(alloc: Global, used: &[bool], rotations: bool) -> Result<Need, Memory>
 }
 
 // A letter for each cell: a dot, the last digit of a patch's qubit, a P, or a #.
-fn picture(alloc: Global, layout: &Layout) -> Result<String, Memory> {
+pub fn picture(alloc: Global, layout: &Layout) -> Result<String, Memory> {
     let mut text = String::new(alloc);
     for cell in 0..layout.size() {
         match layout.tile(cell) {
@@ -38,7 +42,7 @@ fn picture(alloc: Global, layout: &Layout) -> Result<String, Memory> {
     Ok(text)
 }
 
-fn sides_of(layout: &Layout, cell: u32, edge: Edge) -> Option<[Option<u32>; 2]> {
+pub fn sides_of(layout: &Layout, cell: u32, edge: Edge) -> Option<[Option<u32>; 2]> {
     if cell < layout.size() {
         Some(layout.sides(cell, edge))
     } else {
@@ -125,5 +129,62 @@ fn whole_regions(rt: HostRuntime) -> Result<(), Fail> {
     assert_eq!(rt; copy.cells(), [4, 2].as_slice());
     let again = CellList::of(list.into_vec());
     assert_eq!(rt; again.cells(), [4, 2].as_slice());
+    Ok(())
+}
+
+fn list_of(alloc: Global, cells: &[u32]) -> Result<CellList, Memory> {
+    let mut list = CellList::new(alloc);
+    for cell in cells {
+        list.push(*cell)?;
+    }
+    Ok(list)
+}
+
+// The certificate of the first cells is checked with the second ones.
+#[test]
+fn checks_plans(rt: HostRuntime) -> Result<(), Fail> {
+    let layout = Layout::row(rt.alloc(), &need(rt.alloc(), &[true, true], true)?)?;
+    let rows: [(&[u32], &[u32], bool, Option<Fault>); 8] = [
+        (&[3, 4, 10], &[3, 4, 10], false, None),
+        (&[], &[], false, Some(Fault::Shape)),
+        (&[3, 4, 10], &[3, 4, 10], true, Some(Fault::Port)),
+        (
+            &[3, 4, 10],
+            &[4, 3, 10],
+            false,
+            Some(Fault::Cell { index: 1 }),
+        ),
+        (
+            &[3, 4, 10],
+            &[3, 9, 10],
+            false,
+            Some(Fault::Cell { index: 1 }),
+        ),
+        (&[3, 10], &[3, 10], false, Some(Fault::Parent { index: 1 })),
+        (&[3, 4], &[3, 4], false, Some(Fault::Touch { index: 0 })),
+        (&[4, 10], &[4, 10], false, Some(Fault::Touch { index: 1 })),
+    ];
+    for (first, cells, rotation, want) in rows {
+        let axis = Product::new(rt.alloc(), false, &[Letter::I, Letter::Y])?;
+        let list = list_of(rt.alloc(), first)?;
+        let mut plan = certify(rt.alloc(), &layout, 5, axis, None, list)?;
+        assert_eq!(rt; plan.number, 5);
+        plan.cells = list_of(rt.alloc(), cells)?;
+        assert_eq!(rt; check(&layout, &plan, rotation), want, "at {cells:?}");
+    }
+    Ok(())
+}
+
+#[test]
+fn looks_and_copies(rt: HostRuntime) -> Result<(), Fail> {
+    let layout = Layout::row(rt.alloc(), &need(rt.alloc(), &[true, true], true)?)?;
+    let copy = layout.copy(rt.alloc())?;
+    let text = picture(rt.alloc(), &copy)?;
+    assert_eq!(rt; text.as_str(), ".......0.1.P");
+    let look = Look::new(rt.alloc(), &copy, 2)?;
+    assert_eq!(rt; look.held.as_slice().len(), 12);
+    assert_eq!(rt; look.axis.len(), 2);
+    assert_eq!(rt; look.taken, None);
+    assert_eq!(rt; look.ready, [0; 16]);
     Ok(())
 }

@@ -1,7 +1,6 @@
-use Rattle.std.proofs.Common.{◌≡◌, [], ◌∷◌, List, sym, subst, refl}
+use Rattle.std.proofs.Common.{◌≡◌, [], ◌∷◌, sym, subst, refl}
 use Rattle.pauli_product.specs.declared.Letter.{Letter}
 use Rattle.patch_layout.specs.declared.layout.Edge.TheVariants as edge
-use Rattle.patch_layout.specs.declared.layout.Side.{Side}
 use Rattle.patch_layout.specs.declared.layout.Side.TheVariants as side
 use Rattle.patch_layout.specs.Region.{sides_of}
 use Rattle.patch_layout.proofs.Checking.{second_side}
