@@ -1,0 +1,9 @@
+pub mod Spelled
+pub mod Rules
+pub mod Breaking
+pub mod Tables
+pub mod Once
+pub mod Slots
+pub mod Listed
+pub mod Filled
+pub mod Reading
