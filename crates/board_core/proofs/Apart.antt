@@ -27,7 +27,7 @@ earlier j h p q c x y legal l =
 same_claim : (h : History) (x y : ℕ) (e f : Entry) → x ≡ y → slice_get h x ≡ Some e → slice_get h y ≡ Some f → e ≡ f
 same_claim h x y e f s g k = same_Some e f (sym g ∙ ap (slice_get h) s ∙ k)
 
-abbrev claimer : Entry → ℕ
+abbrev pub claimer : Entry → ℕ
 claimer (Claim p axis through state cells) = p
 claimer (Deliver p g) = p
 claimer (Release p) = p

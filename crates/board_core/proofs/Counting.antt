@@ -1,6 +1,6 @@
 -- How long a legal history can be: the products bound claims, deliveries, releases and settlings, and the states bound the steps.
-use Rattle.std.proofs.Common.{◌≡◌, ◌≢◌, ℕ, zero, suc, ◌+◌, ◌-◌, ◌*◌, ◌/◌, ◌%◌, ◌<◌, ◌≤◌, ◌⊎◌, inl, inr, Bool, true, false, cond, ◌==◌, ◌&&◌, ◌||◌, not, if◌then◌else◌, List, [], ◌∷◌, ◌++◌, length, count_by, refl, ap, ap₂, sym, ◌∙◌, arith, append-nil, append_assoc, length-append, zero-add, eq-eqb, ne_eqb, eqb-true, subst}
-use Rattle.std.proofs.lemmas.Bool.{cases_Bool, cases_lt, eqb-false, true≢false}
+use Rattle.std.proofs.Common.{◌≡◌, ℕ, zero, suc, ◌+◌, ◌-◌, ◌/◌, ◌%◌, ◌<◌, ◌≤◌, inl, inr, Bool, true, false, cond, ◌==◌, ◌&&◌, ◌||◌, not, if◌then◌else◌, List, [], ◌∷◌, ◌++◌, length, refl, ap, ap₂, sym, ◌∙◌, arith, append-nil, append_assoc, length-append, zero-add, ne_eqb, eqb-true}
+use Rattle.std.proofs.lemmas.Bool.{cases_Bool, cases_lt, eqb-false}
 use Rattle.std.proofs.lemmas.List.Sums.{sum_by-cons}
 use Rattle.magic_pool.specs.declared.Fail.{Fail}
 use Rattle.magic_pool.specs.Recount.{steps_of, is_listed, is_made, makers_after, makers_of, is_taken, ready_from, ready_of}

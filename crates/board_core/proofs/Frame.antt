@@ -25,7 +25,7 @@ pub frame_is_source : (n : ℕ) (j : Job) (h : History) (p : ℕ) (s : Static) �
 frame_is_source n j h p s long legal e once ready = legal_look n j (known j.products h) long (known_length j.products h) h p s legal (known_agrees j h legal) e once ready
 
 -- what a claimed or done product waits for is done
-waited_done : (n : ℕ) (j : Job) (h : History) (k p : ℕ) (t u : Static) → ProductsOfLength n j.products → Legal j h → k < p → slice_get j.products k ≡ Some t → slice_get j.products p ≡ Some u → commuting t u ≡ false → IsSome (claim_place h p) ⊎ IsSome (done_place h p) → stands k (done_of h) ≡ true
+pub waited_done : (n : ℕ) (j : Job) (h : History) (k p : ℕ) (t u : Static) → ProductsOfLength n j.products → Legal j h → k < p → slice_get j.products k ≡ Some t → slice_get j.products p ≡ Some u → commuting t u ≡ false → IsSome (claim_place h p) ⊎ IsSome (done_place h p) → stands k (done_of h) ≡ true
 waited_done n j h k p t u long legal l e f apart (inl claimed) =
     let gs = known j.products h in
     let inv = legal_sound n j gs long (known_length j.products h) h legal (known_agrees j h legal) in

@@ -32,7 +32,7 @@ within_take (y ∷ xs) zero k x e = absurd (none-some x e)
 within_take (y ∷ xs) (suc n) zero x e = (omega arith, e)
 within_take (y ∷ xs) (suc n) (suc k) x e = let r = within_take xs n k x e in (omega arith, r.1)
 
-get_append : {A : Type 0} (xs : List A) (y : A) (k : ℕ) → k < length xs → slice_get (xs ++ y ∷ []) k ≡ slice_get xs k
+pub get_append : {A : Type 0} (xs : List A) (y : A) (k : ℕ) → k < length xs → slice_get (xs ++ y ∷ []) k ≡ slice_get xs k
 get_append [] y k l = absurd (omega arith)
 get_append (x ∷ xs) y zero l = refl
 get_append (x ∷ xs) y (suc k) l = get_append xs y k (omega arith)
@@ -68,7 +68,7 @@ legal_back j h e legal = (
 )
 
 -- what has no place in a history has none in its beginning
-some_take : {A : Type 0} (test : A → Bool) (xs : List A) (n : ℕ) → is_some (position test (take n xs)) ≡ true → is_some (position test xs) ≡ true
+pub some_take : {A : Type 0} (test : A → Bool) (xs : List A) (n : ℕ) → is_some (position test (take n xs)) ≡ true → is_some (position test xs) ≡ true
 some_take test [] zero s = absurd (true≢false (sym s))
 some_take test [] (suc n) s = absurd (true≢false (sym s))
 some_take test (x ∷ xs) zero s = absurd (true≢false (sym s))

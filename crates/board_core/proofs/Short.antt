@@ -1,26 +1,24 @@
 -- A legal history within the limits has fewer than 2^20 entries.
-use Rattle.std.proofs.Common.{◌≡◌, ◌≢◌, ℕ, zero, suc, ◌+◌, ◌-◌, ◌*◌, ◌/◌, ◌%◌, ◌^◌, ◌<◌, ◌≤◌, ◌⊎◌, inl, inr, Bool, true, false, ◌==◌, ◌&&◌, ◌||◌, if◌then◌else◌, List, [], ◌∷◌, ◌++◌, length, take, flat_map, Option, Some, None, is_some, IsSome, position, slice_get, refl, ap, ap₂, sym, ◌∙◌, arith, append-nil, append_assoc, length-append, subst, eqb-true}
-use Rattle.std.proofs.lemmas.Bool.{cases_Bool, and_parts, eqb-false, true≢false, false_from_ne_true}
-use Rattle.std.proofs.lemmas.Option.{same_Some, none-some, slice_get_within}
+use Rattle.std.proofs.Common.{◌≡◌, ◌≢◌, ℕ, zero, suc, ◌+◌, ◌*◌, ◌/◌, ◌%◌, ◌^◌, ◌<◌, ◌≤◌, ◌⊎◌, inl, inr, Bool, true, false, ◌==◌, ◌&&◌, ◌||◌, if◌then◌else◌, List, [], ◌∷◌, ◌++◌, length, flat_map, Option, Some, None, is_some, refl, ap, ap₂, sym, ◌∙◌, arith, append-nil, append_assoc, length-append, subst, eqb-true}
+use Rattle.std.proofs.lemmas.Bool.{cases_Bool, and_parts, true≢false}
+use Rattle.std.proofs.lemmas.Option.{slice_get_within}
 use Rattle.std.proofs.lemmas.List.{take_at}
 use Rattle.std.proofs.lemmas.Grind.{flat_map-append}
-use Rattle.source_model.specs.declared.Kind.{Kind}
-use Rattle.source_model.specs.declared.Static.{Static}
-use Rattle.trace_laws.specs.Orders.{upto, others, stands, Exchanged, same, swapped, Ready, Waiting}
+use Rattle.trace_laws.specs.Orders.{upto, others, stands, Exchanged, same, swapped, Waiting}
 use Rattle.trace_laws.proofs.Sorting.{sorted_out, waiting-push}
 use Rattle.magic_pool.specs.declared.Fail.{Fail}
 use Rattle.magic_pool.specs.Recount.{steps_of, is_made, makers_of, ready_of, ready_from}
 use Rattle.board_core.specs.declared.Entry.{Entry}
 use Rattle.board_core.specs.declared.Entry.TheVariants.{Claim, Deliver, Release, Settle}
 use Rattle.board_core.specs.declared.Entry.TheVariants as entry
-use Rattle.board_core.specs.History.{History, is_claim_of, is_done_by, is_release_of, claim_place, done_place, release_place, delivered, steps_in, steps, states_in, taken_states}
+use Rattle.board_core.specs.History.{History, is_claim_of, is_release_of, claim_place, done_place, release_place, delivered, steps_in, steps, states_in, taken_states}
 use Rattle.board_core.specs.Legal.{Job, Allowed, Legal}
 use Rattle.board_core.specs.Orders.{done_in, done_of}
 use Rattle.board_core.specs.Limits.{WithinLimits}
 use Rattle.board_core.proofs.Places.{place_cons, done_stands, some_of}
 use Rattle.board_core.proofs.LegalOrder.{at_end, delivered_at}
 use Rattle.board_core.proofs.Going.{legal_take}
-use Rattle.board_core.proofs.Counting.{sum_to, sum_to_le, tally, steps_tally, Below, Below-append, all_tallied, made, listed, runs_made, listed_few, makers_tally, push_tally, makers-push, ready_step, ready_taken, takens, takens_few, all_ready, one_if}
+use Rattle.board_core.proofs.Counting.{sum_to, sum_to_le, tally, steps_tally, Below, Below-append, all_tallied, runs_made, listed_few, makers_tally, push_tally, makers-push, ready_step, ready_taken, takens_few, all_ready, one_if}
 
 -- ---- products, each at most once
 abbrev claim_in : Entry → List ℕ

@@ -5,3 +5,13 @@ pub mod View
 pub mod Headline
 pub mod Laws
 pub mod Limits
+pub mod Position
+pub mod Causes
+pub mod BitsNow
+pub mod Cells
+pub mod Bits
+pub mod Books
+pub mod Uses
+pub mod Kept
+pub mod Judging
+pub mod Shows

@@ -1,5 +1,5 @@
 -- How large a job may be, and how long its histories can get.
-use Rattle.std.specs.Prelude.{◌≡◌, ℕ, ◌<◌, ◌≤◌, ◌^◌, List, length, Some}
+use Rattle.std.specs.Prelude.{ℕ, ◌<◌, ◌≤◌, ◌^◌, length}
 use Rattle.patch_layout.specs.Grid.{HasStore}
 use Rattle.board_core.specs.History.{History}
 use Rattle.board_core.specs.Legal.{Job, Legal}

@@ -4,15 +4,30 @@
 //! Litinski, "A Game of Surface Codes" (Quantum 3, 128, 2019), section 1.
 #![tactic(auto)]
 
+mod bits;
+mod board;
+mod cells;
+mod desk;
+mod differ;
+mod frames;
+mod judging;
 mod laws;
+mod ledger;
+mod waiting;
 
+pub use board::{
+    BoardStepRefused, BoardStepWhy, ClaimRefused, ClaimWhy, Claimed, DeliverRefused, DeliverWhy,
+    Differ, NoProduct, ReleaseRefused, ReleaseWhy, Standing,
+};
+pub use desk::Board;
 pub use laws::{
-    law_apart, law_axis_known, law_claims, law_frame, law_headline, law_next, law_order,
+    law_apart, law_axis_known, law_claims, law_frame, law_headline, law_next, law_order, law_short,
     law_states, law_third,
 };
 use patch_layout::CellList;
 use pauli_product::Product;
 use source_model::Given;
+pub use waiting::order_of;
 
 /// One event of a board. Products, factories, states and cells are numbered from 0.
 #[derive(Drop)]
