@@ -90,10 +90,6 @@ get_set_other (x ∷ xs) zero (suc k) v ne = refl
 get_set_other (x ∷ xs) (suc i) zero v ne = refl
 get_set_other (x ∷ xs) (suc i) (suc k) v ne = get_set_other xs i k v (λ e. ne (ap suc e))
 
--- no cell is taken yet
-taken_none : (P : ℕ → Type 0) (by : ℕ) (old : List (Option ℕ)) → ((c : ℕ) → P c → ⊥) → Taken P by old old
-taken_none P by old none = (refl, λ c l. inr (none c, refl))
-
 taken_same : (P Q : ℕ → Type 0) (by : ℕ) (old new : List (Option ℕ)) → ((c : ℕ) → P c ↔ Q c) → Taken P by old new → Taken Q by old new
 taken_same P Q by old new same t =
     (t.0, λ c l. elim (t.1 c l) [ inl x ↦ inl ((same c).0 x.0, x.1) | inr x ↦ inr ((λ q. x.0 ((same c).1 q)), x.1) ])
@@ -114,9 +110,6 @@ taken_more P by old new (Some d) within t = (
 )
 
 -- ---- the least one
-least_none : (P : ℕ → Type 0) (holders : List (Option ℕ)) → ((c : ℕ) → P c → ⊥) → LeastTaken P holders None
-least_none P holders none c q p e = none c p
-
 least_same : (P Q : ℕ → Type 0) (holders : List (Option ℕ)) (best : Option (ℕ × ℕ)) → ((c : ℕ) → P c ↔ Q c) → LeastTaken P holders best → LeastTaken Q holders best
 least_same P Q holders None same t = λ c q x e. t c q ((same c).1 x) e
 least_same P Q holders (Some (cell, by)) same t = ((same cell).0 t.0, t.1, λ c q l x e. t.2 c q l ((same c).1 x) e)
@@ -144,17 +137,11 @@ least_more P holders best (Some d) within t = lesser_takes P holders best d (unw
 
 -- ---- the loops
 module _ (g : Grid) (axis : Signed) (through : Option ℕ) (cells : List ℕ) where
-  none_below : (c : ℕ) → IsCellBelow g axis through cells 0 c → ⊥
-  none_below c (k, l, x) = omega arith
-
   joins : (n : ℕ) (cell : Option ℕ) → ((c : ℕ) → (cell ≡ Some c) ↔ IsCellAt g axis through cells n c) → (c : ℕ) → (IsCellBelow g axis through cells n c ⊎ (cell ≡ Some c)) ↔ IsCellBelow g axis through cells (n + 1) c
   joins n cell here c = (
     λ x. (below_more g axis through cells n c).1 (elim x [ inl b ↦ inl b | inr e ↦ inr ((here c).0 e) ]),
     λ x. elim ((below_more g axis through cells n c).0 x) [ inl b ↦ inl b | inr a ↦ inr ((here c).1 a) ],
   )
-
-  pub take_start : (by : ℕ) (old : List (Option ℕ)) → Taken (IsCellBelow g axis through cells 0) by old old
-  take_start by old = taken_none (IsCellBelow g axis through cells 0) by old none_below
 
   pub take_next : (by n : ℕ) (old new : List (Option ℕ)) (cell : Option ℕ) → length old ≡ length g.sites → All (λ c. c < length g.sites) cells → ((c : ℕ) → (cell ≡ Some c) ↔ IsCellAt g axis through cells n c) → Taken (IsCellBelow g axis through cells n) by old new → Taken (IsCellBelow g axis through cells (n + 1)) by old (given_to cell by new)
   take_next by n old new cell size all here t =
@@ -163,9 +150,6 @@ module _ (g : Grid) (axis : Signed) (through : Option ℕ) (cells : List ℕ) wh
 
   pub take_end : (by n : ℕ) (old new : List (Option ℕ)) → n ≡ length cells + length axis.letters + 1 → Taken (IsCellBelow g axis through cells n) by old new → Taken (ClaimCell g axis through cells) by old new
   take_end by n old new e t = taken_same (IsCellBelow g axis through cells n) (ClaimCell g axis through cells) by old new (λ c. rw e (all_cells g axis through cells c)) t
-
-  pub least_start : (holders : List (Option ℕ)) → LeastTaken (IsCellBelow g axis through cells 0) holders None
-  least_start holders = least_none (IsCellBelow g axis through cells 0) holders none_below
 
   pub least_next : (n : ℕ) (holders : List (Option ℕ)) (best : Option (ℕ × ℕ)) (cell : Option ℕ) → length holders ≡ length g.sites → All (λ c. c < length g.sites) cells → ((c : ℕ) → (cell ≡ Some c) ↔ IsCellAt g axis through cells n c) → LeastTaken (IsCellBelow g axis through cells n) holders best → LeastTaken (IsCellBelow g axis through cells (n + 1)) holders (better_of best cell holders)
   least_next n holders best cell size all here t =

@@ -1,5 +1,5 @@
 -- The digits of a number, bit by bit.
-use Rattle.std.proofs.Common.{◌≡◌, ◌≢◌, inl, inr, ℕ, suc, ◌+◌, ◌-◌, ◌/◌, ◌%◌, ◌<◌, Bool, true, false, not, ◌==◌, List, length, get_or, refl, ap, sym, ◌∙◌, arith, eq-eqb, ne_eqb, eqb-true}
+use Rattle.std.proofs.Common.{◌≡◌, inl, inr, ℕ, suc, ◌+◌, ◌-◌, ◌/◌, ◌%◌, ◌<◌, Bool, true, false, not, ◌==◌, List, length, get_or, refl, ap, sym, ◌∙◌, arith, eq-eqb, ne_eqb, eqb-true}
 use Rattle.std.proofs.lemmas.Bool.{cases_Bool, eqb-false, true≢false}
 use Rattle.pauli_product.specs.Bits.{number_of}
 use Rattle.std.specs.Bool.{beq}
@@ -28,14 +28,6 @@ digit_agrees bits at size rest e = go (bits at) refl
         let even = eqb-false (rest % 2) 1 (sym e ∙ f) in
         let none : one_if (bits at) ≡ 0 = ap one_if f in
         same_tests (number_of bits at (suc size)) rest (number_of bits (at + 1) size) (rest / 2) (λ x. omega arith) (λ x. omega arith)
-
--- and one that doesn't
-pub digit_differs : (bits : ℕ → Bool) (at size rest : ℕ) → bits at ≢ (rest % 2 == 1) → (number_of bits at (suc size) == rest) ≡ false
-digit_differs bits at size rest ne = ne_eqb (number_of bits at (suc size)) rest (λ e. ne (go (bits at) refl e))
-  where
-    go : (b : Bool) → bits at ≡ b → number_of bits at (suc size) ≡ rest → bits at ≡ (rest % 2 == 1)
-    go true f e = let one : one_if (bits at) ≡ 1 = ap one_if f in f ∙ sym (eq-eqb (rest % 2) 1 (omega arith))
-    go false f e = let none : one_if (bits at) ≡ 0 = ap one_if f in f ∙ sym (ne_eqb (rest % 2) 1 (λ x. absurd (omega arith)))
 
 -- a step of the test from one bit on
 pub spells_on : (bits : ℕ → Bool) (first size value at rest : ℕ) (v : Bool) → at < first + size → v ≡ (rest % 2 == 1) → bits at ≡ v → (number_of bits first size == value) ≡ (number_of bits at (first + size - at) == rest) → (number_of bits first size == value) ≡ (number_of bits (at + 1) (first + size - (at + 1)) == rest / 2)

@@ -25,7 +25,7 @@ use Rattle.board_core.specs.Legal.{Job, Allowed, ClaimCell, IsKind}
 use Rattle.board_core.specs.View.{claimed_axis, turns_of}
 use Rattle.board_core.specs.Cells.{Taken, without}
 use Rattle.board_core.specs.Bits.{BitsAre, after_write}
-use Rattle.board_core.specs.Kept.{Tables, Kept, Covers}
+use Rattle.board_core.specs.Kept.{Tables, Kept}
 use Rattle.std.proofs.lemmas.Bool.{cases_eq}
 use Rattle.board_core.proofs.CellTables.{get_set_same, get_set_other}
 use Rattle.board_core.proofs.Places.{some_of, claimed_place}
@@ -45,18 +45,6 @@ pub own_fits : (j : Job) (h : History) (t : Tables) (p : ℕ) (s : Static) → K
 own_fits j h t p s k e =
     let all = k.limits.axes_fit p s (slice_get_within j.products p s e) in
     subst (λ (x : Static). OfLength (qubits t.frame) x.axis) (get_or_from_slice_get j.products p s s e) (all ∙ sym k.frame.x.size)
-
-pub scratch_fits : (j : Job) (h : History) (t : Tables) → Kept j h t → OfLength (qubits t.frame) t.scratch
-scratch_fits j h t k = k.scratch ∙ sym k.frame.x.size
-
-pub cover_scratch : (t : Tables) (p : ℕ) → Covers t p → OfLength (qubits t.frame) t.scratch
-cover_scratch t p c = scratch_fits c.job c.past t c.kept
-
-pub cover_standing : (t : Tables) (p : ℕ) → Covers t p → p < length t.standings
-cover_standing t p c = subst (λ (n : ℕ). p < n) (sym c.kept.standings.0) c.within
-
-pub cover_done : (t : Tables) (p : ℕ) → Covers t p → p < length t.done
-cover_done t p c = subst (λ (n : ℕ). p < n) (sym c.kept.done.0) c.within
 
 -- another axis in the room for one
 pub scratch_kept : (j : Job) (h : History) (t : Tables) (scratch : Signed) → Kept j h t → OfLength (qubits t.frame) scratch → Kept j h (record t { scratch = scratch })
