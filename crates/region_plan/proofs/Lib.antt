@@ -1,0 +1,12 @@
+pub mod Least
+pub mod Regions
+pub mod Shuffled
+pub mod Places
+pub mod Rooting
+pub mod Seeking
+pub mod Grafting
+pub mod OverSides
+pub mod Serving
+pub mod Finishing
+pub mod Answering
+pub mod TwoPorts

@@ -1,0 +1,91 @@
+//! The planner.
+
+ghost use Rattle.std.specs.Prelude.{◌≡◌, ℕ, Option, List, length};
+ghost use Rattle.patch_layout.specs.Grid.{Grid, Sound};
+ghost use Rattle.patch_layout.specs.Region.{wanted_sides};
+ghost use Rattle.patch_layout.specs.Joined.{Joined};
+ghost use Rattle.patch_layout.specs.declared.look.Look.{Look as LookValue};
+ghost use Rattle.patch_layout.specs.declared.plan.Plan.{Plan as PlanValue};
+ghost use Rattle.region_plan.specs.Free.{Free, FitsFree, HasLetter};
+ghost use Rattle.region_plan.specs.Answer.{Answers, IsRegion, LeastJoined};
+
+use crate::free::{is_patch_held, lacks_state};
+use crate::ways::way;
+use patch_layout::{Layout, Look, Plan};
+use std::alloc::Global;
+
+/// What a planner answers. The refusals are tried in this order.
+#[derive(Drop)]
+pub enum Planned {
+    /// A region for the product, with its certificate.
+    Region(Plan),
+    /// The product has a claim already.
+    Taken { place: u32 },
+    /// The product waits on an earlier one.
+    NotReady { on: u32 },
+    /// The product is a rotation, and no factory has a ready state.
+    NoReady,
+    /// A patch of the axis is held, or no region fits in the free cells.
+    Blocked,
+    /// Want of memory.
+    Memory,
+}
+
+/// Plans a region for a look: joined side by side in the order of `touches`, each time by the least number of free cells, from the least cell of the first side that serves, through the least unheld port with a ready state that serves.
+pub fn plan(alloc: Global, layout: &Layout, look: &Look) -> Planned
+    requires held { length look.now.held ≡ length layout.now.sites }
+    requires letter { (q : ℕ) × HasLetter look.now.axis q }
+    ensures { Answers (LeastJoined layout.now look.now) layout.now look.now result }
+{
+    if let Some(place) = look.taken {
+        return Planned::Taken { place };
+    }
+    if let Some(on) = look.waits {
+        return Planned::NotReady { on };
+    }
+    if lacks_state(look) {
+        return Planned::NoReady;
+    }
+    if is_patch_held(layout, look) {
+        return Planned::Blocked;
+    }
+    match way(alloc, layout, look) {
+        Ok(Some(plan)) => Planned::Region(plan),
+        Ok(None) => Planned::Blocked,
+        Err(_) => Planned::Memory,
+    }
+}
+
+/// What plans regions. Its answers are those of `plan`, but for a region of its own kind.
+pub trait Planner {
+    /// What the port and the cells of each region meet, by the layout and the look.
+    ghost meets: { Grid → LookValue → Option ℕ → List ℕ → Type 0 };
+
+    /// Plans a region for a look, or says why there is none.
+    fn plan(&mut self, alloc: Global, layout: &Layout, look: &Look) -> Planned
+        requires held { length look.now.held ≡ length layout.now.sites }
+        requires letter { (q : ℕ) × HasLetter look.now.axis q }
+        ensures { Answers (meets layout.now look.now) layout.now look.now result };
+}
+
+/// `plan` as a planner.
+#[derive(Clone, Copy, Debug)]
+pub struct JoiningPlanner;
+
+impl Planner for JoiningPlanner {
+    ghost meets = { LeastJoined };
+
+    fn plan(&mut self, alloc: Global, layout: &Layout, look: &Look) -> Planned {
+        plan(alloc, layout, look)
+    }
+}
+
+/// A region that grows from the least cell that serves is joined side by side.
+pub fn law_joined()
+    ensures { (g : Grid) (look : LookValue) (port : Option ℕ) (cells : List ℕ) → LeastJoined g look port cells → Joined g (Free g look.held) (wanted_sides look.axis port) cells }
+{}
+
+/// The cells of each region are free and fit, so where a planner answers one it isn't blocked.
+pub fn law_region_fits()
+    ensures { (g : Grid) (look : LookValue) (p : PlanValue) → Sound g → IsRegion g look p → FitsFree g look p.port p.cells }
+{}

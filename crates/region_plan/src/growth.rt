@@ -1,0 +1,145 @@
+//! The growth of a region over its sides.
+
+ghost use Rattle.std.specs.Prelude.{◌≡◌, ◌≢◌, ℕ, ◌<◌, length, IfOk, All, AllPairs, []};
+ghost use Rattle.patch_layout.specs.Grid.{Sound};
+ghost use Rattle.patch_layout.specs.Region.{OnSide};
+ghost use Rattle.region_plan.specs.Free.{Free};
+ghost use Rattle.region_plan.specs.Tree.{cells_in, Rooted, Grafted};
+ghost use Rattle.region_plan.specs.Ways.{At, Served, SprungFrom};
+
+use crate::free::free_one;
+use crate::tree::Tree;
+use crate::walk::seek;
+use patch_base::Memory;
+use patch_layout::{Layout, Reached, Side};
+use std::alloc::Global;
+
+/// A region in the order of its growth, and the place of a cell on each of its sides.
+#[derive(Drop)]
+pub(crate) struct Region {
+    pub(crate) tree: Vec<Reached>,
+    pub(crate) touched: Vec<u32>,
+}
+
+/// Joins the region to the side by the least number of free cells, and tells the place of its cell there.
+fn join(
+    layout: &Layout,
+    held: &[Option<u32>],
+    tree: &mut Tree,
+    side: Side,
+    seen: &mut [bool],
+    queue: &mut Vec<Reached>,
+) -> Result<Option<u32>, Memory>
+    requires size { tree.old.size ≡ length layout.now.sites }
+    requires seen { length seen.old ≡ length layout.now.sites }
+    requires sound { Sound layout.now }
+    requires free { All (Free layout.now held.now) (cells_in tree.old.tree) }
+    ensures grafted { IfOk result (Grafted layout.now (Free layout.now held.now) (OnSide layout.now side) tree.old.tree tree.new.tree) }
+    ensures rooted { IfOk result (λ _. (first : ℕ) → Rooted layout.now (Free layout.now held.now) first tree.old.tree → Rooted layout.now (Free layout.now held.now) first tree.new.tree) }
+    ensures size { IfOk result (λ _. tree.new.size ≡ tree.old.size) }
+{
+    let Some(met) = seek(layout, held, tree, &layout.side(side), seen, queue)? else {
+        return Ok(None);
+    };
+    let mut at = queue[met.head];
+    let mut place = met.place;
+    'back: while at.steps > 0 {
+        at = queue[at.from as usize];
+        place = tree.push(at.cell, place)?;
+    }
+    Ok(Some(place))
+}
+
+/// Joins the region to each of the sides in turn, each time by the least number of free cells, and tells whether all could be joined.
+fn grow(
+    layout: &Layout,
+    held: &[Option<u32>],
+    tree: &mut Tree,
+    sides: &[Side],
+    touched: &mut Vec<u32>,
+    seen: &mut [bool],
+    queue: &mut Vec<Reached>,
+) -> Result<bool, Memory>
+    requires size { tree.old.size ≡ length layout.now.sites }
+    requires seen { length seen.old ≡ length layout.now.sites }
+    requires sound { Sound layout.now }
+    requires free { All (Free layout.now held.now) (cells_in tree.old.tree) }
+    requires distinct { AllPairs (λ a b. a ≢ b) (cells_in tree.old.tree) }
+    requires touched { touched.old.items ≡ [] }
+    ensures { IfOk result (SprungFrom layout.now (Free layout.now held.now) sides.now tree.old.tree tree.new.tree touched.new.items) }
+{
+    for side in sides {
+        match join(layout, held, tree, *side, seen, queue)? {
+            Some(place) => touched.push(place)?,
+            None => return Ok(false),
+        }
+    }
+    Ok(true)
+}
+
+/// The region that grows from a free cell over the sides.
+fn sprout(
+    alloc: Global,
+    layout: &Layout,
+    held: &[Option<u32>],
+    first: u32,
+    sides: &[Side],
+) -> Result<Option<Region>, Memory>
+    requires { Free layout.now held.now first }
+    ensures { IfOk result (At layout.now (Free layout.now held.now) (Some first) sides.now) }
+{
+    let size = layout.size();
+    let mut tree = Tree::new(alloc, size, first)?;
+    let mut touched = Vec::new(alloc);
+    let mut seen = vec![in alloc; false; size as usize]?;
+    let mut queue = Vec::new(alloc);
+    if grow(
+        layout,
+        held,
+        &mut tree,
+        sides,
+        &mut touched,
+        &mut seen,
+        &mut queue,
+    )? {
+        let tree = tree.into_vec();
+        Ok(Some(Region { tree, touched }))
+    } else {
+        Ok(None)
+    }
+}
+
+/// The region that grows from this cell, where there is one and it is free.
+fn region_at(
+    alloc: Global,
+    layout: &Layout,
+    held: &[Option<u32>],
+    cell: Option<u32>,
+    sides: &[Side],
+) -> Result<Option<Region>, Memory>
+    ensures { IfOk result (At layout.now (Free layout.now held.now) cell sides.now) }
+{
+    match free_one(layout, held, cell) {
+        Some(first) => sprout(alloc, layout, held, first, sides),
+        None => Ok(None),
+    }
+}
+
+/// The region that grows over the sides from the least free cell on this side that serves.
+pub(crate) fn region_on(
+    alloc: Global,
+    layout: &Layout,
+    held: &[Option<u32>],
+    side: Side,
+    sides: &[Side],
+) -> Result<Option<Region>, Memory>
+    ensures { IfOk result (Served layout.now (Free layout.now held.now) side sides.now) }
+{
+    let pair = layout.side(side);
+    for index in 0..pair.len() {
+        if let Some(region) = region_at(alloc, layout, held, pair[index], sides)? {
+            return Ok(Some(region));
+        }
+    }
+    Ok(None)
+}

@@ -1,0 +1,14 @@
+//! Regions in free cells, or the exact reason against one.
+#![tactic(auto)]
+
+mod answer;
+mod certificate;
+mod free;
+mod growth;
+#[cfg(test)]
+mod tests;
+mod tree;
+mod walk;
+mod ways;
+
+pub use answer::{JoiningPlanner, Planned, Planner, law_joined, law_region_fits, plan};
