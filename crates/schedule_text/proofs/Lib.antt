@@ -1,3 +1,9 @@
 pub mod Pieces
 pub mod Passing
 pub mod OneText
+pub mod Rising
+pub mod Worded
+pub mod Lined
+pub mod Hearing
+pub mod LastWritten
+pub mod OneRun

@@ -1,4 +1,5 @@
 pub mod Text
-pub mod Reading
 pub mod Written
 pub mod Pens
+pub mod Lines
+pub mod Bits

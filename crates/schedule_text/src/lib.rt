@@ -1,20 +1,30 @@
 //! Schedules as text: a header, a line for each entry of a history, and a line for each register's bits.
 #![tactic(auto)]
 
-ghost use Rattle.std.specs.Prelude.{◌≡◌, ◌≤◌, All, length, OnOk, OnErr};
+ghost use Rattle.std.specs.Prelude.{◌≡◌, ◌≤◌, ◌⊎◌, All, length, OnOk, OnErr, IfOk, IfSome};
 ghost use Rattle.patch_base.specs.Outside.{Rose, Grew, AppendsPrefix};
 ghost use Rattle.source_model.specs.Circuits.{WellFormed, bits_in};
+ghost use Rattle.source_model.specs.Statics.{statics};
+ghost use Rattle.board_core.specs.declared.Noted.{Noted};
+ghost use Rattle.board_core.specs.History.{entries};
+ghost use Rattle.schedule_text.specs.Bits.{LeavesBits};
+ghost use Rattle.schedule_text.specs.Lines.{IsEntryLine, version_of};
 ghost use Rattle.schedule_text.specs.Text.{text_of, bits_text, two, bit_in, HasNumber, TextTellsAll};
 
+mod bits;
 mod pen;
+mod read;
 #[cfg(test)]
 mod tests;
 
+use bits::{Said, count};
 use board_core::Noted;
 use node_log::Log;
-use patch_base::{Failed, Sink};
+use patch_base::{Failed, Memory, Sink, Words};
 use pen::Pen;
-use source_model::Circuit;
+use read::{entry, pass};
+use source_model::{Circuit, Static, law_bits};
+use std::alloc::Global;
 
 /// Writes a history as text of version 2: the header, a line for each entry, and a line for each register's bits.
 /// `bits` has one truth value per bit of the registers. No memory is taken.
@@ -60,6 +70,51 @@ pub fn write_bits<O: Sink>(circuit: &Circuit, bits: &[bool], out: &mut O) -> Res
     let mut pen = Pen::new();
     pen.bits(circuit, bits, out)?;
     pen.send(out)
+}
+
+/// The bits of the registers behind a history of the circuit's static products, in order: each is the effective outcome of
+/// the last product that measures into it, in source order, and 0 where there is none.
+///
+/// # Errors
+///
+/// `Memory` where memory is wanting.
+pub fn history_bits(
+    alloc: Global,
+    circuit: &Circuit,
+    products: &[Static],
+    history: &Log<Noted>,
+) -> Result<Vec<bool>, Memory>
+    requires circuit { WellFormed circuit.now }
+    requires products { products.now ≡ statics circuit.now.items }
+    ensures { IfOk result (λ bits. LeavesBits circuit.now (entries history.now) bits.items) }
+{
+    law_bits();
+    let said = Said::of(alloc, products.len(), history)?;
+    let size = count(circuit.registers.as_slice());
+    let mut bits = vec![in alloc; false; size]?;
+    said.write(products, &mut bits);
+    Ok(bits)
+}
+
+/// The entry that a line of a schedule names, with the number of the pass that made it, which is 0 in version 1.
+/// `version` is 1 or 2. None where the line is no entry line of that version.
+///
+/// # Errors
+///
+/// `Memory` where the axis or the cells of a claim found none.
+pub fn read_entry(alloc: Global, line: &[u8], version: u32) -> Result<Option<Noted>, Memory>
+    requires { (version ≡ 1) ⊎ (version ≡ 2) }
+    ensures found { IfOk result (λ f. IfSome f (IsEntryLine (version_of version) line.now)) }
+    ensures exact { IfOk result (λ f. (n : Noted) → IsEntryLine (version_of version) line.now n → f ≡ Some n) }
+{
+    let mut words = Words::of(line);
+    let Some(by) = pass(&mut words, version) else {
+        return Ok(None);
+    };
+    let Some(entry) = entry(alloc, &mut words, version)? else {
+        return Ok(None);
+    };
+    Ok(Some(Noted { by, entry }))
 }
 
 /// No two triples of a version, a history and bits of one circuit share a text.

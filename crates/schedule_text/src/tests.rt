@@ -1,14 +1,15 @@
-ghost use Rattle.std.specs.Prelude.{◌≡◌, ◌+◌, ◌<◌, ◌≤◌, All, length, IfOk, OnOk};
+ghost use Rattle.std.specs.Prelude.{◌≡◌, true, ◌⊎◌, ◌+◌, ◌<◌, ◌≤◌, [], ◌∷◌, All, length, IfOk, OnOk};
 ghost use Rattle.source_model.specs.Circuits.{WellFormed, bits_in};
+ghost use Rattle.pauli_product.specs.declared.Letter.TheVariants.{Z};
 ghost use Rattle.schedule_text.specs.Text.{HasNumber};
 
-use crate::{write_bits, write_history};
+use crate::{history_bits, read_entry, write_bits, write_history};
 use board_core::{Entry, Noted};
 use node_log::{Log, Node};
 use patch_base::{Failed, MemorySink};
 use patch_layout::CellList;
 use pauli_product::{Letter, Product};
-use source_model::{Circuit, Given, Items, Name, Register, Registers};
+use source_model::{Circuit, Given, Item, Items, Kind, Name, Register, Registers, Static};
 use std::alloc::Global;
 use std::test::Fail;
 
@@ -159,5 +160,164 @@ fn writes_bits(rt: HostRuntime) -> Result<(), Fail> {
         Ok(())
     );
     assert_eq!(rt; sink.bytes(), b"bits c 011\n".as_slice());
+    Ok(())
+}
+
+/// What is written of a history of the one entry that a line names; nothing where it names none.
+fn rewritten(alloc: Global, line: &[u8], version: u32) -> Result<MemorySink, Fail>
+    requires { (version ≡ 1) ⊎ (version ≡ 2) }
+{
+    let circuit = circuit(alloc, 1)?;
+    let mut history = Log::new();
+    let mut sink = MemorySink::new(alloc, 200, 200)?;
+    if let Some(noted) = read_entry(alloc, line, version)?
+        && noted.by <= 63
+    {
+        history.push(Node::empty(alloc)?, noted);
+        write_history(&circuit, &history, &[true], &mut sink)?;
+    }
+    Ok(sink)
+}
+
+#[test]
+fn reads_each_kind_of_entry(rt: HostRuntime) -> Result<(), Fail> {
+    for (line, text) in [
+        (
+            b"63 C 7 -IXYZ 15 20 0 4 4095".as_slice(),
+            b"schedule 2\n63 C 7 -IXYZ 15 20 0 4 4095\nbits c 1\n".as_slice(),
+        ),
+        (
+            b"0 C 2 +Z - - 6".as_slice(),
+            b"schedule 2\n0 C 2 +Z - - 6\nbits c 1\n".as_slice(),
+        ),
+        (
+            b"1 D 0 1 0".as_slice(),
+            b"schedule 2\n1 D 0 1 0\nbits c 1\n".as_slice(),
+        ),
+        (
+            b"2 D 10 1".as_slice(),
+            b"schedule 2\n2 D 10 1\nbits c 1\n".as_slice(),
+        ),
+        (
+            b"3 R 4294967295".as_slice(),
+            b"schedule 2\n3 R 4294967295\nbits c 1\n".as_slice(),
+        ),
+        (
+            b"4 S 9".as_slice(),
+            b"schedule 2\n4 S 9\nbits c 1\n".as_slice(),
+        ),
+        (
+            b"5 T 1 1".as_slice(),
+            b"schedule 2\n5 T 1 1\nbits c 1\n".as_slice(),
+        ),
+    ] {
+        let sink = rewritten(rt.alloc(), line, 2)?;
+        assert_eq!(rt; sink.bytes(), text);
+    }
+    Ok(())
+}
+
+#[test]
+fn reads_the_first_version(rt: HostRuntime) -> Result<(), Fail> {
+    let sink = rewritten(rt.alloc(), b"C 0 +Z 0 0 1 2 3", 1)?;
+    assert_eq!(rt;
+        sink.bytes(),
+        b"schedule 2\n0 C 0 +Z 0 0 1 2 3\nbits c 1\n".as_slice()
+    );
+    for line in [b"T 1 1".as_slice(), b"0 S 0", b""] {
+        let read = read_entry(rt.alloc(), line, 1)?;
+        assert!(rt; read.is_none());
+    }
+    Ok(())
+}
+
+#[test]
+fn refuses_other_lines(rt: HostRuntime) -> Result<(), Fail> {
+    for line in [
+        b"64 S 0".as_slice(),
+        b"00 S 0",
+        b"0 S 00",
+        b"0 S 4294967296",
+        b"0 S",
+        b"0 S 0 ",
+        b"0  S 0",
+        b"S 0",
+        b"0 s 0",
+        b"0 D 0",
+        b"0 D 0 2",
+        b"0 D 0 1 0 1",
+        b"0 R 0 1",
+        b"0 T 0",
+        b"0 B 0",
+        b"0",
+        b"",
+    ] {
+        let read = read_entry(rt.alloc(), line, 2)?;
+        assert!(rt; read.is_none());
+    }
+    Ok(())
+}
+
+#[test]
+fn refuses_other_claims(rt: HostRuntime) -> Result<(), Fail> {
+    for line in [
+        b"0 C 0 +Z 0 0".as_slice(),
+        b"0 C 0 +Z 0 0 2 1",
+        b"0 C 0 +Z 0 0 2 2",
+        b"0 C 0 +Z - 0 1",
+        b"0 C 0 +Z 0 - 1",
+        b"0 C 0 Z - - 1",
+        b"0 C 0 + - - 1",
+        b"0 C 0 +A - - 1",
+    ] {
+        let read = read_entry(rt.alloc(), line, 2)?;
+        assert!(rt; read.is_none());
+    }
+    Ok(())
+}
+
+/// A circuit of one qubit that measures -Z into its one bit.
+fn measuring(alloc: Global) -> Result<Circuit, Fail>
+    ensures formed { IfOk result (λ c. WellFormed c) }
+    ensures items { IfOk result (λ c. c.items ≡ Item.Measure (record { sign = true; letters = Z ∷ [] }) 0 ∷ []) }
+{
+    let mut registers = Vec::new(alloc);
+    registers.push(Register {
+        name: Name::new(alloc, b"c")?,
+        first: 0,
+        size: 1,
+    })?;
+    let mut items = Vec::new(alloc);
+    items.push(Item::Measure {
+        axis: Product::new(alloc, true, &[Letter::Z])?,
+        bit: 0,
+    })?;
+    Ok(Circuit {
+        qubits: 1,
+        registers: Registers::of(registers),
+        items: Items::of(items),
+        hidden: 0,
+    })
+}
+
+#[test]
+fn turns_an_outcome_round(rt: HostRuntime) -> Result<(), Fail> {
+    let circuit = measuring(rt.alloc())?;
+    let mut products = Vec::new(rt.alloc());
+    products.push(Static {
+        axis: Product::new(rt.alloc(), true, &[Letter::Z])?,
+        kind: Kind::Measure { bit: 0 },
+    })?;
+    let mut history = Log::new();
+    let claim = claim(
+        rt.alloc(),
+        0,
+        Product::new(rt.alloc(), true, &[Letter::Z])?,
+        None,
+    )?;
+    let given = Given::Measure { raw: false };
+    product(rt.alloc(), &mut history, claim, 0, given)?;
+    let bits = history_bits(rt.alloc(), &circuit, &products, &history)?;
+    assert_eq!(rt; bits.as_slice(), [true].as_slice());
     Ok(())
 }
