@@ -4,7 +4,7 @@ use Rattle.std.specs.Option.{option_to_list}
 use Rattle.std.proofs.Math.ListN.{set, length-set}
 use Rattle.std.proofs.lemmas.Option.{same_Some, slice_get_within, get_or_from_slice_get}
 use Rattle.pauli_product.specs.Signed.{Signed, OfLength}
-use Rattle.pauli_product.specs.Pulls.{Turn, half, carry}
+use Rattle.pauli_product.specs.Pulls.{Turn, quarter, half, carry}
 use Rattle.pauli_product.specs.Corrections.{corrections, effective, turn_if}
 use Rattle.source_model.specs.declared.Given.TheVariants as given
 use Rattle.source_model.specs.declared.Kind.{Kind}
@@ -106,7 +106,7 @@ done_noted j h p place long t st frame bits done standings scratch is marked ws 
 no_measure : (k : Kind) (raw x : Bool) (c : ℕ) → IsKind k (given.Rotation raw x) → k ≡ kind.Measure c → ⊥
 no_measure k raw x c i e = subst (λ (y : Kind). IsKind y (given.Rotation raw x)) e i
 
-pub rotate_noted : (j : Job) (h : History) (p place : ℕ) (raw x effective-is : Bool) (s : Static) (own : Signed) (t : Tables) (frame : Images) (done : List Bool) (standings : List Standing) (scratch : Signed) → Kept j h t → slice_get j.products p ≡ Some s → s.axis ≡ own → Allowed j h (Deliver p (given.Rotation raw x)) → place ≡ length h → ((n : ℕ) (turns : List Turn) → After n turns t.frame → scratch ≡ carry turns own) → effective-is ≡ effective scratch raw → OfLength (qubits t.frame) scratch → ((n : ℕ) (turns : List Turn) (r : Bool) → After n turns t.frame → effective-is ≡ effective (carry turns own) r → After n (turns ++ corrections (carry turns own) (carry turns own) r x) frame) → done ≡ set t.done p true → ((s : Standing) → slice_get t.standings p ≡ Some s → standings ≡ set t.standings p (record s { deliver = Some place })) → Kept j (h ++ Deliver p (given.Rotation raw x) ∷ []) (record t { frame = frame; done = done; standings = standings; scratch = scratch })
+pub rotate_noted : (j : Job) (h : History) (p place : ℕ) (raw x effective-is : Bool) (s : Static) (own : Signed) (t : Tables) (frame : Images) (done : List Bool) (standings : List Standing) (scratch : Signed) → Kept j h t → slice_get j.products p ≡ Some s → s.axis ≡ own → Allowed j h (Deliver p (given.Rotation raw x)) → place ≡ length h → ((n : ℕ) (turns : List Turn) → After n turns t.frame → scratch ≡ carry turns own) → effective-is ≡ effective scratch raw → OfLength (qubits t.frame) scratch → ((n : ℕ) (turns : List Turn) → After n turns t.frame → After n (turns ++ (turn_if effective-is (carry turns own) quarter ++ turn_if x (carry turns own) half)) frame) → done ≡ set t.done p true → ((s : Standing) → slice_get t.standings p ≡ Some s → standings ≡ set t.standings p (record s { deliver = Some place })) → Kept j (h ++ Deliver p (given.Rotation raw x) ∷ []) (record t { frame = frame; done = done; standings = standings; scratch = scratch })
 rotate_noted j h p place raw x effective-is s own t frame done standings scratch k e axis a is image sign fits corrected marked ws =
     let l = slice_get_within j.products p s e in
     let st = entry_of t.standings p (subst (λ (n : ℕ). p < n) (sym k.standings.0) l) in
@@ -115,7 +115,7 @@ rotate_noted j h p place raw x effective-is s own t frame done standings scratch
     let now = image k.limits.qubits turns k.frame in
     let turned : After k.limits.qubits (turns ++ corrections (carry turns s.axis) (carry turns s.axis) raw x) frame =
     subst (λ (y : Signed). After k.limits.qubits (turns ++ corrections (carry turns y) (carry turns y) raw x) frame) (sym axis)
-    (corrected k.limits.qubits turns raw k.frame (sign ∙ ap (λ (y : Signed). effective y raw) now)) in
+    (subst (λ (b : Bool). After k.limits.qubits (turns ++ (turn_if b (carry turns own) quarter ++ turn_if x (carry turns own) half)) frame) (sign ∙ ap (λ (y : Signed). effective y raw) now) (corrected k.limits.qubits turns k.frame)) in
     done_noted j (h ++ Deliver p g ∷ []) p place (length h) t st.0 frame t.bits done standings scratch is marked (ws st.0 st.1)
     (deliver_keeps j h p g (carry turns s.axis) t st.0 frame t.bits scratch k a st.1 (now_claimed j h t p s k e a.0 a.1) turned
     (bits_deliver j h p g s t.bits e (λ c m. no_measure s.kind raw x c (subst (λ (y : Static). IsKind y.kind g) (same_Some a.2.0 s (sym a.2.1 ∙ e)) a.2.2) m) k.bits) refl (fits ∙ k.frame.x.size))

@@ -1,9 +1,9 @@
 //! Corrections of the frame.
 
-ghost use Rattle.std.specs.Prelude.{◌≡◌, ℕ, Bool, ◌++◌, List};
+ghost use Rattle.std.specs.Prelude.{◌≡◌, ℕ, ◌++◌, List};
 ghost use Rattle.pauli_product.specs.Signed.{OfLength};
-ghost use Rattle.pauli_product.specs.Pulls.{Turn, carry, half};
-ghost use Rattle.pauli_product.specs.Corrections.{corrections, effective as effective_of, turn_if};
+ghost use Rattle.pauli_product.specs.Pulls.{Turn, carry, quarter, half};
+ghost use Rattle.pauli_product.specs.Corrections.{effective as effective_of, turn_if};
 ghost use Rattle.frame_table.specs.Images.{After, qubits};
 
 use frame_table::Frame;
@@ -24,7 +24,7 @@ pub fn effective_now(frame: &Frame, own: &Product, room: &mut Product, raw: bool
 /// Corrects after a rotation about the axis that it has now.
 pub fn correct_rotation(frame: &mut Frame, own: &Product, effective: bool, x: bool)
     requires { OfLength (qubits frame.old) own.now }
-    ensures { (n : ℕ) (turns : List Turn) (raw : Bool) → After n turns frame.old → effective ≡ effective_of (carry turns own.now) raw → After n (turns ++ corrections (carry turns own.now) (carry turns own.now) raw x) frame.new }
+    ensures { (n : ℕ) (turns : List Turn) → After n turns frame.old → After n (turns ++ (turn_if effective (carry turns own.now) quarter ++ turn_if x (carry turns own.now) half)) frame.new }
 {
     frame.advance(own, effective, x);
 }
