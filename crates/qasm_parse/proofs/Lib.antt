@@ -1,0 +1,14 @@
+pub mod Lists
+pub mod First
+pub mod Numbers
+pub mod Broken
+pub mod Meeting
+pub mod Arguments
+pub mod Made
+pub mod Formals
+pub mod Steps
+pub mod Spelled
+pub mod Starts
+pub mod Files
+pub mod Allowed
+pub mod Passing

@@ -1,0 +1,14 @@
+pub mod Forms
+pub mod Grammar
+pub mod Spelling
+pub mod Meaning
+pub mod Words
+pub mod Lexed
+pub mod Gates
+pub mod Small
+pub mod Known
+pub mod Faults
+pub mod Meets
+pub mod Behind
+pub mod Pass
+pub mod Rows
