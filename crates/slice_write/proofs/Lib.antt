@@ -19,4 +19,5 @@ pub mod Sixes
 pub mod Paging
 pub mod Words
 pub mod Whole
-pub mod OfBoard
+pub mod Parts
+pub mod OnePort

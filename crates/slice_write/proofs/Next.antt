@@ -16,8 +16,7 @@ use Rattle.slice_write.specs.Slices.{Sliced, greatest, greatest_of, is_among, is
 use Rattle.slice_write.specs.Numbers.{greatest_at, made_by}
 use Rattle.slice_write.specs.Clashes.{greatest_clash}
 use Rattle.slice_write.specs.Factories.{IsReady, step_of}
-use Rattle.slice_write.specs.Slices.{job}
-use Rattle.slice_write.specs.Tables.{Keeps, Fits, Awaits, IsNext, Notes, NotesClaim, NotesSettle, NotesStep}
+use Rattle.slice_write.specs.Tables.{job, Keeps, Fits, Awaits, IsNext, Notes, NotesClaim, NotesSettle, NotesStep}
 use Rattle.slice_write.proofs.Greatest.{greatest_le, value_le}
 use Rattle.slice_write.proofs.Making.{made_at_le}
 use Rattle.slice_write.proofs.Shared.{shared_is}

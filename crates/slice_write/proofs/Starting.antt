@@ -23,8 +23,7 @@ use Rattle.slice_write.specs.declared.ledger.Ledger.{Ledger}
 use Rattle.slice_write.specs.Slices.{Sliced, is_step_of, is_claim_with, holds_cell, clashes_with, made_in, made_at, states_made_by, sliced, slices_of, slice_of}
 use Rattle.slice_write.specs.Clashes.{PlacedAre, greatest_clash}
 use Rattle.slice_write.specs.Factories.{FactoryIs, IsFresh}
-use Rattle.slice_write.specs.Slices.{job}
-use Rattle.slice_write.specs.Tables.{Keeps, Fits, Awaits, IsNext}
+use Rattle.slice_write.specs.Tables.{job, Keeps, Fits, Awaits, IsNext}
 use Rattle.slice_write.proofs.Greatest.{greatest_none}
 use Rattle.slice_write.proofs.Clashing.{clash_none}
 use Rattle.slice_write.proofs.Slicing.{sliced_more, sliced_none, sliced_entries, get_at}

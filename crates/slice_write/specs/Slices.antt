@@ -15,9 +15,6 @@ use Rattle.board_core.specs.declared.Entry.TheVariants.{Claim, Deliver, Release,
 use Rattle.board_core.specs.History.{History, steps, is_claim_of}
 use Rattle.board_core.specs.Legal.{Job}
 
-abbrev pub job : List Static → Grid → List Fail → Job
-job products grid fails = record { products = products; grid = grid; fails = fails }
-
 -- an entry that has its slice
 abbrev pub Sliced : Type 0
 Sliced = Entry × ℕ

@@ -10,10 +10,13 @@ use Rattle.board_core.specs.History.{is_claim_of}
 use Rattle.board_core.specs.Legal.{Job}
 use Rattle.slice_write.specs.declared.factory.Factory.{Factory}
 use Rattle.slice_write.specs.declared.ledger.Ledger.{Ledger}
-use Rattle.slice_write.specs.Slices.{Sliced, job, greatest, greatest_of, is_claim_with, is_among, holds_cell, clashes_with, entries_of, made_in, made_at, slice_of}
+use Rattle.slice_write.specs.Slices.{Sliced, greatest, greatest_of, is_claim_with, is_among, holds_cell, clashes_with, entries_of, made_in, made_at, slice_of}
 use Rattle.slice_write.specs.Numbers.{raised, raised_if}
 use Rattle.slice_write.specs.Clashes.{greatest_clash, placed_at, PlacedAre, Inserts}
 use Rattle.slice_write.specs.Factories.{FactoryIs, Steps, makes}
+
+abbrev pub job : List Static → Grid → List Fail → Job
+job products grid fails = record { products = products; grid = grid; fails = fails }
 
 -- the tables behind entries that have their slices
 pub record Keeps (j : Job) (done : List Sliced) (t : Ledger) : Type 0 where

@@ -38,8 +38,7 @@ pub(crate) struct Ledger {
 }
 
 impl Ledger {
-    ghost use Rattle.slice_write.specs.Slices.{job};
-    ghost use Rattle.slice_write.specs.Tables.{Keeps, Awaits, Notes, NotesClaim, NotesSettle, NotesStep};
+    ghost use Rattle.slice_write.specs.Tables.{job, Keeps, Awaits, Notes, NotesClaim, NotesSettle, NotesStep};
 
     pub(crate) fn new(
         alloc: Global,

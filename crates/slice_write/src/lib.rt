@@ -26,6 +26,7 @@ mod text;
 
 use board_core::Board;
 pub use fault::SliceFault;
+use history::{slice_history, write_history_slices};
 use patch_base::{Failed, Memory, Sink};
 use patch_layout::Layout;
 use pen::Pen;
@@ -40,7 +41,7 @@ use std::alloc::Global;
 pub fn slices(alloc: Global, board: &Board) -> Result<Vec<u32>, Memory>
     ensures { IfOk result (λ v. v.items ≡ slices_of board.now.job (past board.now)) }
 {
-    history::slices(
+    slice_history(
         alloc,
         board.products(),
         board.layout(),
@@ -50,7 +51,7 @@ pub fn slices(alloc: Global, board: &Board) -> Result<Vec<u32>, Memory>
 }
 
 /// Writes the slices of a board's history: the greatest slice, and for each slice from 1 on its number, the factories that
-/// step in it, and the picture of its claims where it has some. `slices` are those that `slices` answers for the board.
+/// step in it, and the picture of its claims where it has some. `slices` are those that `slices` answers.
 ///
 /// # Errors
 ///
@@ -69,7 +70,7 @@ pub fn write_slices<O: Sink>(
     ensures failed { result ≡ Err SliceFault.Failed → Rose (O.faults out.old) (O.faults out.new) }
     ensures memory { result ≡ Err SliceFault.Memory → O.taken out.new ≡ O.taken out.old }
 {
-    history::write_slices(
+    write_history_slices(
         alloc,
         board.products(),
         board.layout(),

@@ -2,9 +2,9 @@ use Rattle.std.proofs.Common.{◌≡◌, ◌<◌, ◌^◌, ◌∷◌, [], ◌++�
 use Rattle.board_core.specs.declared.Noted.{Noted}
 use Rattle.board_core.specs.History.{entries}
 use Rattle.slice_write.specs.Slices.{sliced, slices_of}
-use Rattle.slice_write.specs.Slices.{job}
+use Rattle.slice_write.specs.Tables.{job}
 use Rattle.slice_write.proofs.Starting.{awaits_next, fits_next, keeps_next, slices_next, keeps_start, slices_start}
-use Rattle.slice_write.proofs.history.slices.Goals as goal
+use Rattle.slice_write.proofs.history.slice_history.Goals as goal
 
 pub loop-noted-init : goal.loop-noted-init
 loop-noted-init c =

@@ -2,9 +2,9 @@ use Rattle.std.proofs.Common.{◌∙◌, ap, subst, List, ℕ}
 use Rattle.patch_base.specs.Outside.{Grew, AppendsPrefix}
 use Rattle.board_core.specs.History.{entries}
 use Rattle.slice_write.specs.Pages.{pages_text}
-use Rattle.slice_write.specs.Slices.{job}
+use Rattle.slice_write.specs.Tables.{job}
 use Rattle.slice_write.proofs.Whole.{within_greatest, all_have_room, as_many, whole_text}
-use Rattle.slice_write.proofs.history.write_slices.Goals as goal
+use Rattle.slice_write.proofs.history.write_history_slices.Goals as goal
 
 pub pages-requires-clause-same : goal.pages-requires-clause-same
 pages-requires-clause-same g c = as_many (job c.args.products.now c.args.layout.now c.args.fails.now) c.args.history.now c.args.slices.now c.requires.slices
