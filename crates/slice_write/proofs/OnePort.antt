@@ -17,7 +17,7 @@ one_port (suc (suc (suc (suc zero)))) f store level e = cc
 one_port (suc (suc (suc (suc (suc zero))))) f store level e = cc
 one_port (suc (suc (suc (suc (suc (suc zero)))))) f store level e = cc
 one_port (suc (suc (suc (suc (suc (suc (suc zero))))))) f store level e = (cc, cc)
-one_port (suc (suc (suc (suc (suc (suc (suc (suc n))))))))  f store level e = cc
+one_port (suc (suc (suc (suc (suc (suc (suc (suc n)))))))) f store level e = cc
 
 abbrev pub makers : List Maker
 makers = record { factory = 0; store = 1 } ∷ []
