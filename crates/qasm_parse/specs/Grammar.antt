@@ -21,7 +21,7 @@ names = one Name ⨾ many (one Comma ⨾ one Name)
 unfoldable pub brackets : Form
 brackets = optional (one Open ⨾ must Parameters Close)
 
--- another text than the gates of the paper isn't read
+-- another text than `qelib1.inc` isn't read
 unfoldable pub include : Form
 include = one Include ⨾ (one Qelib or never Unsupported Quoted) ⨾ one Semicolon
 
