@@ -102,6 +102,16 @@ impl<T> Log<T> {
         Some(self.chain.value(at, place))
     }
 
+    /// The value that was pushed last, in constant time. None where there are no values.
+    pub fn last(&self) -> Option<&T>
+        ensures { MatchOption result (self.now ≡ []) (λ x. slice_get self.now (length self.now - 1) ≡ Some x.now) }
+    {
+        if self.len == 0 {
+            return None;
+        }
+        Some(self.chain.value(self.tail, self.len - 1))
+    }
+
     /// The values in order, the first one first.
     pub fn walk(&self) -> Walk<'_, T>
         ensures values { result ≡ self.now }

@@ -23,10 +23,12 @@ fn three(alloc: Global) -> Result<Log<u32>, Memory> {
 fn pushes_answer_places(rt: HostRuntime) -> Result<(), Fail> {
     let mut log = Log::<u32>::new();
     assert_eq!(rt; log.length(), 0);
+    assert_eq!(rt; log.last().copied(), None);
     assert_eq!(rt; log.push(Node::empty(rt.alloc())?, 5), 0);
     assert_eq!(rt; log.push(Node::empty(rt.alloc())?, 5), 1);
     assert_eq!(rt; log.push(Node::empty(rt.alloc())?, 7), 2);
     assert_eq!(rt; log.length(), 3);
+    assert_eq!(rt; log.last().copied(), Some(7));
     Ok(())
 }
 
