@@ -8,7 +8,7 @@ use Rattle.patch_layout.specs.declared.line.Line.TheVariants as line
 use Rattle.patch_layout.specs.declared.layout.Site.{Site}
 use Rattle.patch_layout.specs.declared.layout.Site.TheVariants as site
 use Rattle.patch_layout.specs.Grid.{Sound}
-use Rattle.patch_layout.specs.Kept.{grid_of, Ranged}
+use Rattle.patch_layout.specs.Kept.{grid_of}
 use Rattle.patch_layout.specs.Openness.{Least}
 use Rattle.patch_layout.specs.LayoutText.{InRange, cell_of, site_of, Doubles, Sized, Twice, Laid}
 use Rattle.patch_layout.specs.Reading.{Proper, TwiceTo, CellIs, Lays}
@@ -207,16 +207,13 @@ patch_source (line.Patch r c a) q level e range = let same : r ≡ q = cc in ome
 patch_source (line.Port f c a s) q level e range = absurd (cc)
 patch_source (line.Wall c) q level e range = absurd (cc)
 
-port_source : (l : Line) (f : ℕ) (level : Bool) (store : ℕ) → site_of l ≡ site.Port f level store → InRange l → f < 16
-port_source (line.Port g c a s) f level store e range = let same : g ≡ f = cc in omega (arith, range.0)
+port_source : (l : Line) (f : ℕ) (level : Bool) (store : ℕ) → site_of l ≡ site.Port f level store → InRange l → (f < 16) × (0 < store) × (store ≤ 16)
+port_source (line.Port g c a s) f level store e range =
+    let same : g ≡ f = cc in
+    let held : s ≡ store = cc in
+    (omega (arith, range.0), omega (arith, range.2), omega (arith, range.3))
 port_source (line.Patch q c a) f level store e range = absurd (cc)
 port_source (line.Wall c) f level store e range = absurd (cc)
-
-pub laid_ranged : (ls : List Line) (sites : List Site) (d : Option ℕ) → Proper ls → Lays ls (length ls) sites d → Ranged sites
-laid_ranged ls sites d p y = (
-  λ c q level is. let (i, l, e, a, b) = source ls (length ls) sites d c (site.Patch q level) y is (λ w. cc) in patch_source l q level b (p.ranged l (Contains_from_get ls i l e)),
-  λ c f level store is. let (i, l, e, a, b) = source ls (length ls) sites d c (site.Port f level store) y is (λ w. cc) in port_source l f level store b (p.ranged l (Contains_from_get ls i l e)),
-)
 
 -- rows and columns of a grid with cells
 few_rows : (rows columns : ℕ) → 0 < rows * columns → rows * columns ≤ 4096 → rows ≤ 4096
@@ -237,6 +234,8 @@ laid_sound rows columns ls sites d p size some few y = record {
   columns = few_columns rows columns some few;
   one_patch = λ q c e (a, is) (b, at'). one_source ls c e (site.Patch q a) (site.Patch q b) p (λ k l f g. (patch_doubles k l q a b f g, patch_doubles l k q b a g f)) (source ls (length ls) sites d c (site.Patch q a) y is (λ w. cc)) (source ls (length ls) sites d e (site.Patch q b) y at' (λ w. cc));
   one_port = λ q c e (a, s, is) (b, t, at'). one_source ls c e (site.Port q a s) (site.Port q b t) p (λ k l f g. (port_doubles k l q a b s t f g, port_doubles l k q b a t s g f)) (source ls (length ls) sites d c (site.Port q a s) y is (λ w. cc)) (source ls (length ls) sites d e (site.Port q b t) y at' (λ w. cc));
+  patches = λ q c (level, is). let (i, l, e, a, b) = source ls (length ls) sites d c (site.Patch q level) y is (λ w. cc) in patch_source l q level b (p.ranged l (Contains_from_get ls i l e));
+  stores = λ f store (c, level, is). let (i, l, e, a, b) = source ls (length ls) sites d c (site.Port f level store) y is (λ w. cc) in port_source l f level store b (p.ranged l (Contains_from_get ls i l e));
 }
 
 pub sized_is : (rows columns n : ℕ) (ls : List Line) → (n ≡ rows * columns) × (0 < n) × (n ≤ 4096) → ((l : Line) → Contains ls l → cell_of l < n) → Sized rows columns ls

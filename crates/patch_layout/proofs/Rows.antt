@@ -9,7 +9,7 @@ use Rattle.patch_layout.specs.declared.layout.Edge.TheVariants as edge
 use Rattle.patch_layout.specs.declared.layout.Site.{Site}
 use Rattle.patch_layout.specs.declared.layout.Site.TheVariants as site
 use Rattle.patch_layout.specs.Grid.{Grid, Sound, Open, IsAncilla, IsPatch, IsPort, Adjacent, Joins, OnPatch, OnPort, sides, sides_at, ancilla, if_ancilla, left, right, above, below}
-use Rattle.patch_layout.specs.Kept.{Ranged, grid_of}
+use Rattle.patch_layout.specs.Kept.{grid_of}
 use Rattle.patch_layout.specs.Row.{patch_row, row_grid, wanted, IsUsed}
 use Rattle.patch_layout.proofs.Places.{same_entry}
 use Rattle.patch_layout.proofs.Neighbours.{is_left, is_above}
@@ -172,6 +172,15 @@ port_place n f c (level, store, is) =
       | inr (inr w) ↦ let e : site.Port f level store ≡ site.Port 0 true 1 = w.1 in (cc, w.0)
     ]
 
+port_store : (n f c : ℕ) (level : Bool) (store : ℕ) → slice_get (row_grid n).sites c ≡ Some (site.Port f level store) → store ≡ 1
+port_store n f c level store is =
+    let r = cell_kind n c (site.Port f level store) is in
+    elim r.kind [
+      | inl e ↦ absurd (cc)
+      | inr (inl w) ↦ let e : site.Port f level store ≡ site.Patch r.half true = w.2 in absurd (cc)
+      | inr (inr w) ↦ let e : site.Port f level store ≡ site.Port 0 true 1 = w.1 in cc
+    ]
+
 pub row_sound : (n : ℕ) → n ≤ 64 → Sound (row_grid n)
 row_sound n few = record {
   cells = grid_length n;
@@ -181,13 +190,9 @@ row_sound n few = record {
   columns = omega arith;
   one_patch = λ q c d p r. omega (arith, (patch_place n q c p).1, (patch_place n q d r).1);
   one_port = λ f c d p r. omega (arith, (port_place n f c p).1, (port_place n f d r).1);
+  patches = λ q c p. omega (arith, (patch_place n q c p).0);
+  stores = λ f store (c, level, is). (omega (arith, (port_place n f c (level, store, is)).0), omega (arith, port_store n f c level store is), omega (arith, port_store n f c level store is));
 }
-
-pub row_ranged : (n : ℕ) → n ≤ 64 → Ranged (row_grid n).sites
-row_ranged n few = (
-  λ c q level is. omega (arith, (patch_place n q c (level, is)).0),
-  λ c f level store is. omega (arith, (port_place n f c (level, store, is)).0),
-)
 
 -- each ancilla cell is joined to cell 0
 
@@ -311,9 +316,6 @@ row_done all start once twice q n inv e f size =
 -- of sites that are those of the row layout
 pub sound_sites : (n : ℕ) (sites : List Site) → n ≤ 64 → sites ≡ (row_grid n).sites → Sound (grid_of 2 (2 * n + 2) sites)
 sound_sites n sites few e = let P : List Site → Type 0 = λ ss. Sound (grid_of 2 (2 * n + 2) ss) in subst P (sym e) (row_sound n few)
-
-pub ranged_sites : (n : ℕ) (sites : List Site) → n ≤ 64 → sites ≡ (row_grid n).sites → Ranged sites
-ranged_sites n sites few e = let P : List Site → Type 0 = λ ss. Ranged ss in subst P (sym e) (row_ranged n few)
 
 pub row_made : (n : ℕ) (sites : List Site) (g : Grid) → sites ≡ (row_grid n).sites → g ≡ grid_of 2 (2 * n + 2) sites → g ≡ row_grid n
 row_made n sites g e f = let P : List Site → Type 0 = λ ss. g ≡ grid_of 2 (2 * n + 2) ss in subst P e f

@@ -1,7 +1,7 @@
 //! Layouts: a grid of cells, of which some are patches, ports or walls.
 
 ghost use Rattle.std.specs.Prelude.{◌≡◌, ℕ, ◌<◌, ◌≤◌, ◌↔◌, length, slice_get, Option, Some, None, List, IsTrue, IfOk, Contains};
-ghost use Rattle.patch_layout.specs.Kept.{grid_of, Ranged};
+ghost use Rattle.patch_layout.specs.Kept.{grid_of};
 ghost use Rattle.patch_layout.specs.Region.{OnSide, Ascend};
 ghost use Rattle.patch_layout.specs.Grid.{Sound, IsPatch, IsPort, neighbours, sides, beside, ancilla, tile_of, IsAncilla, Adjacent, HasStore, store_at, lies_level};
 
@@ -85,8 +85,7 @@ impl Model for Layout {
 impl Layout {
     /// The layout of these sites, row by row.
     pub fn of(alloc: Global, rows: u32, columns: u32, sites: Vec<Site>) -> Result<Layout, Memory>
-        requires sound { Sound (grid_of rows columns sites.items) }
-        requires ranged { Ranged sites.items }
+        requires { Sound (grid_of rows columns sites.items) }
         ensures { IfOk result (λ layout. layout ≡ grid_of rows columns sites.items) }
     {
         let mut patches = vec![in alloc; None; 1024]?;
@@ -166,12 +165,9 @@ impl Layout {
         } else {
             Some(cell - columns)
         };
-        let left = if cell % columns == 0 {
-            None
-        } else {
-            Some(cell - 1)
-        };
-        let right = if (cell + 1) % columns == 0 {
+        let column = cell % columns;
+        let left = if column == 0 { None } else { Some(cell - 1) };
+        let right = if column + 1 == columns {
             None
         } else {
             Some(cell + 1)
@@ -295,9 +291,10 @@ impl Layout {
 
     /// The store of the factory.
     pub fn store(&self, factory: u32) -> Option<u32>
-        ensures { (s : ℕ) → (result ≡ Some s) ↔ HasStore self.now factory s }
+        ensures value { (s : ℕ) → (result ≡ Some s) ↔ HasStore self.now factory s }
+        ensures sound { Sound self.now }
     {
-        match self.port(factory) {
+        match entry(&self.ports, factory) {
             Some(cell) => self.store_at(cell),
             None => None,
         }

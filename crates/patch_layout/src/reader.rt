@@ -4,7 +4,7 @@ ghost use Rattle.std.specs.Prelude.{◌≡◌, ◌≢◌, ◌⊎◌, ℕ, ◌*�
 ghost use Rattle.patch_base.specs.Texts.{lines};
 ghost use Rattle.patch_layout.specs.declared.line.Line.{Line};
 ghost use Rattle.patch_layout.specs.declared.layout.Site.TheVariants as site;
-ghost use Rattle.patch_layout.specs.Grid.{Grid, Open};
+ghost use Rattle.patch_layout.specs.Grid.{Grid, Open, Sound};
 ghost use Rattle.patch_layout.specs.declared.fault.LayoutFault.{LayoutFault};
 ghost use Rattle.patch_layout.specs.declared.fault.LayoutFault.TheVariants as fault;
 ghost use Rattle.patch_layout.specs.Row.{wanted};
@@ -40,6 +40,7 @@ impl Layout {
     pub fn read(alloc: Global, text: &[u8], need: &Need) -> Result<Layout, LayoutFault>
         requires { length need.now.used ≡ need.now.qubits }
         ensures stands { IfOk result (StandsFor text.now) }
+        ensures sound { IfOk result Sound }
         ensures open { IfOk result (λ layout. Open layout (wanted need.now.used need.now.rotations)) }
         ensures refused { IfErr result (Refused text.now (wanted need.now.used need.now.rotations)) }
 
@@ -57,6 +58,7 @@ impl Layout {
 fn read_open(alloc: Global, text: &[u8], need: &Need) -> Result<Layout, LayoutFault>
     requires { length need.now.used ≡ need.now.qubits }
     ensures stands { IfOk result (StandsFor text.now) }
+    ensures sound { IfOk result Sound }
     ensures open { IfOk result (λ layout. Open layout (wanted need.now.used need.now.rotations)) }
     ensures refused { IfErr result (Refused text.now (wanted need.now.used need.now.rotations)) }
 {
@@ -253,6 +255,7 @@ fn lay_out(alloc: Global, rows: u32, columns: u32, lines: &[Line]) -> Result<Lay
     ensures sized { IfOk result (λ _. Sized rows columns lines.now) }
     ensures once { IfOk result (λ _. (c : ℕ) → Twice lines.now c → ⊥) }
     ensures laid { IfOk result (Laid rows columns lines.now) }
+    ensures sound { IfOk result Sound }
     ensures refused { IfErr result (GridRefused rows columns lines.now) }
 {
     let Some(cells) = cell_count(rows, columns) else {

@@ -1,7 +1,7 @@
 //! The built-in row layout, and the region of all ancilla cells.
 
 ghost use Rattle.std.specs.Prelude.{◌≡◌, ℕ, ◌+◌, ◌<◌, ◌≤◌, ◌^◌, min, length, IfOk, IfErr, ◌++◌, drop, MatchOption};
-ghost use Rattle.patch_layout.specs.Grid.{Open};
+ghost use Rattle.patch_layout.specs.Grid.{Open, Sound};
 ghost use Rattle.patch_layout.specs.Row.{row_grid, wanted, RowRefused, LeastUsedFrom, IsUsed, ancilla_cells, ancilla_from, WholeFits, WholeAscends, WholeIsAncilla};
 
 use crate::fault::LayoutFault;
@@ -20,6 +20,7 @@ impl Layout {
     pub fn row(alloc: Global, need: &Need) -> Result<Layout, LayoutFault>
         requires { length need.now.used ≡ need.now.qubits }
         ensures row { IfOk result (λ layout. layout ≡ row_grid (min need.now.qubits 64)) }
+        ensures sound { IfOk result Sound }
         ensures open { IfOk result (λ layout. Open layout (wanted need.now.used need.now.rotations)) }
         ensures refused { IfErr result (RowRefused need.now.used) }
     {

@@ -1,13 +1,15 @@
-use Rattle.std.proofs.Common.{◌≡◌, ◌≤◌, ℕ, Bool, List, arith, min, subst}
+use Rattle.std.proofs.Common.{◌≡◌, ◌≤◌, ℕ, Bool, List, arith, min, subst, sym}
+use Rattle.patch_layout.specs.Grid.{Sound}
 use Rattle.patch_layout.specs.Row.{IsUsed}
-use Rattle.patch_layout.proofs.Rows.{sound_sites, ranged_sites, row_made, made_open}
+use Rattle.patch_layout.proofs.Rows.{sound_sites, row_made, made_open}
 use Rattle.patch_layout.proofs.layout.Layout.row.Goals as goal
 
-pub of-requires-clause-sound : goal.of-requires-clause-sound
-of-requires-clause-sound c = sound_sites c.min-patches.result c.in_ok-sites-in-None.sites.items (omega arith) c.in_ok-sites-in-None.ensures
+pub of-requires : goal.of-requires
+of-requires c = sound_sites c.min-patches.result c.in_ok-sites-in-None.sites.items (omega arith) c.in_ok-sites-in-None.ensures
 
-pub of-requires-clause-ranged : goal.of-requires-clause-ranged
-of-requires-clause-ranged c = ranged_sites c.min-patches.result c.in_ok-sites-in-None.sites.items (omega arith) c.in_ok-sites-in-None.ensures
+pub returns-in_ok-layout-in-None-clause-sound : goal.returns-in_ok-layout-in-None-clause-sound
+returns-in_ok-layout-in-None-clause-sound c =
+    subst Sound (sym c.in_ok-layout-in-None.ensures) (sound_sites c.min-patches.result c.in_ok-sites-in-None.sites.items (omega arith) c.in_ok-sites-in-None.ensures)
 
 pub returns-in_ok-layout-in-None-clause-open : goal.returns-in_ok-layout-in-None-clause-open
 returns-in_ok-layout-in-None-clause-open c =
