@@ -10,11 +10,12 @@ use Rattle.source_model.specs.declared.Kind.{Kind}
 use Rattle.source_model.specs.declared.Kind.TheVariants as kind
 use Rattle.source_model.specs.declared.Static.{Static}
 use Rattle.frame_table.specs.Images.{Images, After}
-use Rattle.patch_layout.specs.Grid.{Grid}
+use Rattle.patch_layout.specs.Grid.{Grid, Sound}
 use Rattle.magic_pool.specs.Pooled.{Pooled, Recounts}
 use Rattle.board_core.specs.declared.bits.Written.{Written}
 use Rattle.board_core.specs.declared.board.Standing.{Standing}
 use Rattle.board_core.specs.Limits.{WithinLimits}
+use Rattle.board_core.specs.Suits.{IsOpenFor, HaveLetters}
 use Rattle.board_core.specs.Laws.{ProductsOfLength}
 use Rattle.board_core.specs.Bits.{BitIs}
 use Rattle.board_core.specs.Books.{NamesBelow, BitsReach, HasMakersOf}
@@ -60,9 +61,12 @@ no_places = record { claim = None; deliver = None; release = None }
 abbrev unwritten : Written
 unwritten = record { by = None; value = false }
 
-pub kept_new : (products : List Static) (grid : Grid) (order : List (List Bool)) (frame : Images) (done : List Bool) (standings : List Standing) (holders : List (Option ℕ)) (bits : List Written) (pool : Pooled) (scratch : Signed) (qubits n : ℕ) → WithinLimits (job_with products grid pool) → qubits ≤ 1024 → ProductsOfLength qubits products → IsOrderOf products order → After qubits [] frame → done ≡ replicate (length products) false → standings ≡ replicate (length products) no_places → holders ≡ replicate (length grid.sites) None → bits ≡ replicate n unwritten → BitsReach products n → Recounts pool [] [] → HasMakersOf grid pool.makers → OfLength qubits scratch → Kept (job_with products grid pool) [] (record { order = order; frame = frame; done = done; standings = standings; holders = holders; bits = bits; pool = pool; scratch = scratch })
-kept_new products grid order frame done standings holders bits pool scratch qubits n limits few long is_order after none_done no_standings free none_written reach recounts makers fits = record {
-  limits = record { qubits = qubits; few_qubits = few; axes_fit = long; few_products = limits.few_products; few_fails = limits.few_fails; factories = limits.factories };
+pub kept_new : (products : List Static) (grid : Grid) (order : List (List Bool)) (frame : Images) (done : List Bool) (standings : List Standing) (holders : List (Option ℕ)) (bits : List Written) (pool : Pooled) (scratch : Signed) (qubits n : ℕ) → WithinLimits (job_with products grid pool) → Sound grid → IsOpenFor grid products → HaveLetters products → qubits ≤ 1024 → ProductsOfLength qubits products → IsOrderOf products order → After qubits [] frame → done ≡ replicate (length products) false → standings ≡ replicate (length products) no_places → holders ≡ replicate (length grid.sites) None → bits ≡ replicate n unwritten → BitsReach products n → Recounts pool [] [] → HasMakersOf grid pool.makers → OfLength qubits scratch → Kept (job_with products grid pool) [] (record { order = order; frame = frame; done = done; standings = standings; holders = holders; bits = bits; pool = pool; scratch = scratch })
+kept_new products grid order frame done standings holders bits pool scratch qubits n limits sound is_open letters few long is_order after none_done no_standings free none_written reach recounts makers fits = record {
+  limits = record { qubits = qubits; few_qubits = few; axes_fit = long; few_products = limits.few_products; few_fails = limits.few_fails };
+  sound = sound;
+  open_for = is_open;
+  letters = letters;
   legal = legal_empty (job_with products grid pool);
   order = is_order;
   frame = after;

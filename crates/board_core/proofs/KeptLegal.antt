@@ -15,8 +15,11 @@ use Rattle.board_core.proofs.Short.{legal_short}
 pub kept_legal : (j : Job) (log : List Noted) (t : Tables) → Kept j (entries log) t → IsLegal (record { job = j; history = log })
 kept_legal j log t k = record {
   limits = k.limits;
+  factories = k.sound.stores;
+  open_for = k.open_for;
+  letters = k.letters;
   legal = k.legal;
-  short = subst (λ (n : ℕ). n < 2 ^ 20) (length-map log (λ n. n.entry)) (legal_short j (entries log) k.limits k.legal);
+  short = subst (λ (n : ℕ). n < 2 ^ 20) (length-map log (λ n. n.entry)) (legal_short j (entries log) k.limits k.sound.stores k.legal);
 }
 
 pub entries_push : (log : List Noted) (by : ℕ) (e : Entry) → entries (log ++ note by e ∷ []) ≡ entries log ++ e ∷ []

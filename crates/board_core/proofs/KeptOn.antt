@@ -84,6 +84,9 @@ release_keeps j h p t st holders k a at l size freed =
     let e = Release p in
     record {
       limits = k.limits;
+      sound = k.sound;
+      open_for = k.open_for;
+      letters = k.letters;
       legal = legal_next j h (Release p) k.legal a;
       order = k.order;
       frame = frame_same k.limits.qubits j.products h (Release p) t.frame refl k.frame;
@@ -110,6 +113,9 @@ claim_keeps j h p axis through state cells t st holders pool k a at l taken same
     let is = same_Some st (standing_of h p) (sym at ∙ k.standings.1 p l) in
     record {
       limits = k.limits;
+      sound = k.sound;
+      open_for = k.open_for;
+      letters = k.letters;
       legal = legal_next j h (Claim p axis through state cells) k.legal a;
       order = k.order;
       frame = frame_same k.limits.qubits j.products h (Claim p axis through state cells) t.frame refl k.frame;
@@ -131,6 +137,9 @@ claim_keeps j h p axis through state cells t st holders pool k a at l taken same
 pub step_keeps : (j : Job) (h : History) (f : ℕ) (t : Tables) (pool : Pooled) → Kept j h t → Allowed j h (entry.Step f) → pool.fails ≡ t.pool.fails → pool.makers ≡ t.pool.makers → Recounts pool (steps h ++ f ∷ []) (taken_states h) → Kept j (h ++ entry.Step f ∷ []) (record t { pool = pool })
 step_keeps j h f t pool k a same_fails same_makers recounts = record {
   limits = k.limits;
+  sound = k.sound;
+  open_for = k.open_for;
+  letters = k.letters;
   legal = legal_next j h (entry.Step f) k.legal a;
   order = k.order;
   frame = frame_same k.limits.qubits j.products h (entry.Step f) t.frame refl k.frame;
@@ -163,6 +172,9 @@ deliver_keeps j h p g axis t st frame bits scratch k a at claimed corrected writ
     let is = same_Some st (standing_of h p) (sym at ∙ k.standings.1 p l) in
     record {
       limits = k.limits;
+      sound = k.sound;
+      open_for = k.open_for;
+      letters = k.letters;
       legal = legal_next j h (Deliver p g) k.legal a;
       order = k.order;
       frame = subst (λ (t : List Turn). After k.limits.qubits t frame) (sym (turns_deliver j.products h p axis g claimed)) corrected;
@@ -187,6 +199,9 @@ settle_keeps j h p flip s t st frame scratch k a at e corrected fits =
     let no_bit : (c : ℕ) → s.kind ≡ kind.Measure c → ⊥ = λ c m. settle_measure a.2.1 a.2.2 a.2.3 c (sym a.2.5 ∙ ap (λ (x : Static). x.kind) (same_Some a.2.0 s (sym a.2.4 ∙ e)) ∙ m) in
     record {
       limits = k.limits;
+      sound = k.sound;
+      open_for = k.open_for;
+      letters = k.letters;
       legal = legal_next j h (Settle p flip) k.legal a;
       order = k.order;
       frame = subst (λ (t : List Turn). After k.limits.qubits t frame) (sym (turns_settle j.products h p flip s e)) corrected;

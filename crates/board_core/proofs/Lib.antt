@@ -31,3 +31,5 @@ pub mod Placing
 pub mod Judged
 pub mod Accepted
 pub mod Carried
+pub mod Gathering
+mod RowBoard

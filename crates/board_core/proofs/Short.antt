@@ -14,7 +14,7 @@ use Rattle.board_core.specs.declared.Entry.TheVariants as entry
 use Rattle.board_core.specs.History.{History, is_claim_of, is_release_of, claim_place, done_place, release_place, delivered, steps_in, steps, states_in, taken_states}
 use Rattle.board_core.specs.Legal.{Job, Allowed, Legal}
 use Rattle.board_core.specs.Orders.{done_in, done_of}
-use Rattle.board_core.specs.Limits.{WithinLimits}
+use Rattle.board_core.specs.Limits.{WithinLimits, AreFactories}
 use Rattle.board_core.proofs.Places.{place_cons, done_stands, some_of}
 use Rattle.board_core.proofs.LegalOrder.{at_end, delivered_at}
 use Rattle.board_core.proofs.Going.{legal_take}
@@ -208,15 +208,15 @@ stocked_step fails st taken g store low few may x = record {
     one true = (low, tt)
     one false = tt
 
-stocked_on : (j : Job) (h : History) (e : Entry) → WithinLimits j → Allowed j h e → Stocked j.fails (steps h) (taken_states h) → Stocked j.fails (steps h ++ steps_in e) (taken_states h ++ states_in e)
-stocked_on j h (Claim p axis through None cells) limits a x = rw (append-nil (steps h), append-nil (taken_states h)) x
-stocked_on j h (Claim p axis through (Some s) cells) limits a x = rw (append-nil (steps h)) (stocked_taken j.fails (steps h) (taken_states h) s x)
-stocked_on j h (Deliver p g) limits a x = rw (append-nil (steps h), append-nil (taken_states h)) x
-stocked_on j h (Release p) limits a x = rw (append-nil (steps h), append-nil (taken_states h)) x
-stocked_on j h (entry.Step f) limits a x =
-    let within = limits.factories f a.0 a.1 in
-    rw (append-nil (taken_states h)) (stocked_step j.fails (steps h) (taken_states h) f a.0 within.0 within.1 a.2 x)
-stocked_on j h (Settle p flip) limits a x = rw (append-nil (steps h), append-nil (taken_states h)) x
+stocked_on : (j : Job) (h : History) (e : Entry) → AreFactories j.grid → Allowed j h e → Stocked j.fails (steps h) (taken_states h) → Stocked j.fails (steps h ++ steps_in e) (taken_states h ++ states_in e)
+stocked_on j h (Claim p axis through None cells) ranges a x = rw (append-nil (steps h), append-nil (taken_states h)) x
+stocked_on j h (Claim p axis through (Some s) cells) ranges a x = rw (append-nil (steps h)) (stocked_taken j.fails (steps h) (taken_states h) s x)
+stocked_on j h (Deliver p g) ranges a x = rw (append-nil (steps h), append-nil (taken_states h)) x
+stocked_on j h (Release p) ranges a x = rw (append-nil (steps h), append-nil (taken_states h)) x
+stocked_on j h (entry.Step f) ranges a x =
+    let within = ranges f a.0 a.1 in
+    rw (append-nil (taken_states h)) (stocked_step j.fails (steps h) (taken_states h) f a.0 within.0 within.2 a.2 x)
+stocked_on j h (Settle p flip) ranges a x = rw (append-nil (steps h), append-nil (taken_states h)) x
 
 counted_on : (j : Job) (h : History) (e : Entry) → Legal j h → Allowed j h e → Counted j h → Counted j (h ++ e ∷ [])
 counted_on j h e legal a x = record {
@@ -226,13 +226,13 @@ counted_on j h e legal a x = record {
   few_taken = rw (pushed states_in h e, pushed claim_in h e) (taken_on h e x.few_taken);
 }
 
-both_on : (j : Job) (h es : History) → WithinLimits j → Legal j (h ++ es) → Counted j h → Stocked j.fails (steps h) (taken_states h) → Counted j (h ++ es) × Stocked j.fails (steps (h ++ es)) (taken_states (h ++ es))
-both_on j h [] limits legal x y = rw (append-nil h) (x, y)
-both_on j h (e ∷ es) limits legal x y =
+both_on : (j : Job) (h es : History) → AreFactories j.grid → Legal j (h ++ es) → Counted j h → Stocked j.fails (steps h) (taken_states h) → Counted j (h ++ es) × Stocked j.fails (steps (h ++ es)) (taken_states (h ++ es))
+both_on j h [] ranges legal x y = rw (append-nil h) (x, y)
+both_on j h (e ∷ es) ranges legal x y =
     let more : (h ++ e ∷ []) ++ es ≡ h ++ e ∷ es = append_assoc h (e ∷ []) es in
     let here : Allowed j h e = rw (take_at h (e ∷ es) (length h) refl) at (legal (length h) e (at_end h e es)) in
     let before : Legal j h = rw (take_at h (e ∷ es) (length h) refl) at (legal_take j (h ++ e ∷ es) (length h) legal) in
-    rw more at (both_on j (h ++ e ∷ []) es limits (rw more legal) (counted_on j h e before here x) (rw (pushed steps_in h e, pushed states_in h e) (stocked_on j h e limits here y)))
+    rw more at (both_on j (h ++ e ∷ []) es ranges (rw more legal) (counted_on j h e before here x) (rw (pushed steps_in h e, pushed states_in h e) (stocked_on j h e ranges here y)))
 
 -- ---- the bound
 sixteens : (n : ℕ) → sum_to n (λ f. 16) ≡ 16 * n
@@ -270,11 +270,11 @@ steps_few j h limits x y =
     let products = limits.few_products in
     omega arith
 
-pub legal_short : (j : Job) (h : History) → WithinLimits j → Legal j h → length h < 2 ^ 20
-legal_short j h limits legal =
+pub legal_short : (j : Job) (h : History) → WithinLimits j → AreFactories j.grid → Legal j h → length h < 2 ^ 20
+legal_short j h limits ranges legal =
     let start : Counted j [] = record { claims = tt; dones = tt; releases = tt; few_taken = omega arith } in
     let begin : Stocked j.fails [] [] = record { stepped = tt; makers = tt; stock = λ f. omega arith; running = λ f r. omega arith } in
-    let r = both_on j [] h limits legal start begin in
+    let r = both_on j [] h ranges legal start begin in
     let a = each_adds h in
     let b = once_few (length j.products) (claims_of h) r.0.claims in
     let c = once_few (length j.products) (done_of h) r.0.dones in

@@ -24,7 +24,7 @@ steps_few (entry.Step f ∷ es) = let i = steps_few es in omega arith
 steps_few (Settle p flip ∷ es) = let i = steps_few es in omega arith
 
 pub has_fewer : (j : Job) (h : History) (t : Tables) → Kept j h t → HasFewer t.pool (2 ^ 32 - 1)
-has_fewer j h t k = (steps h, taken_states h, k.pool, (let few = steps_few h in let s = legal_short j h k.limits k.legal in omega arith))
+has_fewer j h t k = (steps h, taken_states h, k.pool, (let few = steps_few h in let s = legal_short j h k.limits k.sound.stores k.legal in omega arith))
 
 -- the three answers of a pool
 module _ (fails : List Fail) (f store before made ready : ℕ) where

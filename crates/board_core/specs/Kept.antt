@@ -2,6 +2,7 @@
 use Rattle.std.specs.Prelude.{◌≡◌, ℕ, Bool, ◌<◌, List, length, Option}
 use Rattle.pauli_product.specs.Signed.{Signed, OfLength}
 use Rattle.frame_table.specs.Images.{Images, After}
+use Rattle.patch_layout.specs.Grid.{Sound}
 use Rattle.magic_pool.specs.Pooled.{Pooled, Recounts}
 use Rattle.board_core.specs.declared.bits.Written.{Written}
 use Rattle.board_core.specs.declared.board.Standing.{Standing}
@@ -9,6 +10,7 @@ use Rattle.board_core.specs.History.{History, steps, taken_states}
 use Rattle.board_core.specs.Legal.{Job, Legal}
 use Rattle.board_core.specs.View.{turns_of}
 use Rattle.board_core.specs.Limits.{WithinLimits}
+use Rattle.board_core.specs.Suits.{IsOpenFor, HaveLetters}
 use Rattle.board_core.specs.Bits.{BitsAre}
 use Rattle.board_core.specs.Books.{StandingsAre, HoldersAre, BitsReach, HasMakersOf}
 use Rattle.board_core.specs.Uses.{IsOrderOf, DoneAre}
@@ -26,6 +28,9 @@ pub record Tables : Type 0 where
 
 pub record Kept (j : Job) (h : History) (t : Tables) : Type 0 where
   pub limits : WithinLimits j
+  pub sound : Sound j.grid
+  pub open_for : IsOpenFor j.grid j.products
+  pub letters : HaveLetters j.products
   pub legal : Legal j h
   pub order : IsOrderOf j.products t.order
   pub frame : After limits.qubits (turns_of j.products h) t.frame
@@ -40,7 +45,7 @@ pub record Kept (j : Job) (h : History) (t : Tables) : Type 0 where
   pub scratch : OfLength limits.qubits t.scratch
 
 -- the tables are those of some history in which p is a product
-pub record Covers (t : Tables) (p : ℕ) : Type 0 where
+pub record HasProduct (t : Tables) (p : ℕ) : Type 0 where
   pub job : Job
   pub past : History
   pub kept : Kept job past t

@@ -5,6 +5,7 @@ pub mod View
 pub mod Headline
 pub mod Laws
 pub mod Limits
+pub mod Suits
 pub mod Position
 pub mod Causes
 pub mod BitsNow

@@ -7,7 +7,8 @@ use Rattle.board_core.specs.declared.Noted.{Noted}
 use Rattle.board_core.specs.declared.Entry.{Entry}
 use Rattle.board_core.specs.History.{History, entries}
 use Rattle.board_core.specs.Legal.{Job, Legal}
-use Rattle.board_core.specs.Limits.{WithinLimits}
+use Rattle.board_core.specs.Limits.{WithinLimits, AreFactories}
+use Rattle.board_core.specs.Suits.{IsOpenFor, HaveLetters}
 
 -- the job of these products and this layout, with the pool's failing runs
 abbrev pub job_with : List Static → Grid → Pooled → Job
@@ -32,8 +33,12 @@ note by e = record { by = by; entry = e }
 abbrev pub with_entry : Position → ℕ → Entry → Position
 with_entry b by e = with_history b (b.history ++ note by e ∷ [])
 
--- the history is legal, and short
+-- the job is within the limits, its layout has factories in their ranges and is open for its products, and each product has a
+-- letter other than I; the history is legal, and short
 pub record IsLegal (b : Position) : Type 0 where
   pub limits : WithinLimits b.job
+  pub factories : AreFactories b.job.grid
+  pub open_for : IsOpenFor b.job.grid b.job.products
+  pub letters : HaveLetters b.job.products
   pub legal : Legal b.job (past b)
   pub short : length b.history < 2 ^ 20

@@ -10,6 +10,7 @@ ghost use Rattle.patch_layout.specs.Case.{case_of};
 ghost use Rattle.magic_pool.specs.Pooled.{Recounts};
 ghost use Rattle.board_core.specs.Legal.{Allowed, AxisOf};
 ghost use Rattle.board_core.specs.Limits.{WithinLimits};
+ghost use Rattle.board_core.specs.Suits.{HaveLetters, IsOpenFor};
 ghost use Rattle.board_core.specs.Position.{past, with_entry, job_with, IsLegal};
 ghost use Rattle.board_core.specs.Books.{HasMakersOf, standing_of};
 ghost use Rattle.board_core.specs.Uses.{IsOrderOf};
@@ -65,7 +66,9 @@ impl Model for Board {
 impl Board {
     /// A board with an empty history.
     ///
-    /// The order is that of the products, and the pool is a new one with the layout's factories and their stores.
+    /// The order is that of the products, as `order_of` makes it, and the pool is a new one with the layout's factories and
+    /// their stores, as `pool_of` makes it. The layout is open for the products, and each product's axis has a letter other
+    /// than I.
     pub fn new(
         alloc: Global,
         layout: Layout,
@@ -77,6 +80,8 @@ impl Board {
         requires order { IsOrderOf products.items order }
         requires pool { Recounts pool [] [] }
         requires makers { HasMakersOf layout pool.makers }
+        requires open { IsOpenFor layout products.items }
+        requires letters { HaveLetters products.items }
         ensures new { IfOk result (λ b. b ≡ record { job = job_with products.items layout pool; history = [] }) }
         ensures legal { IfOk result IsLegal }
     {
@@ -139,11 +144,12 @@ impl Board {
     }
 
     /// Fills a look with what a planner for the product has to know. The look was made for this layout, and for the
-    /// number of qubits of the products.
+    /// number of qubits of the products, and still is.
     pub fn look(&self, p: u32, look: &mut Look) -> Result<(), NoProduct>
         requires held { length look.old.held ≡ length self.now.job.grid.sites }
         requires axis { ProductsOfLength (length look.old.axis.letters) self.now.job.products }
         ensures shown { IfOk result (λ _. Shows self.now p look.new) }
+        ensures long { length look.new.axis.letters ≡ length look.old.axis.letters }
         ensures source { IfOk result (λ _. done_place (past self.now) p ≡ None → look.new.waits ≡ None → AxisOf self.now.job (past self.now) p look.new.axis) }
         ensures stays { IfOk result (λ _. (axis : Signed) → claimed_axis (past self.now) p ≡ Some axis → done_place (past self.now) p ≡ None → look.new.axis ≡ axis) }
         ensures refused { IfErr result (λ _. (length self.now.job.products ≤ p) × (look.new ≡ look.old)) }
@@ -202,7 +208,6 @@ impl Board {
         requires kind { (s : Statics) → IsProduct self.now plan.now.number s → kind ≡ s.kind }
         ensures { MatchResult result (λ _. IsClaimable self.now plan.now) (λ why. ClaimRefusedBecause why self.now plan.now) }
     {
-        let _ = self.layout.size();
         if let Some(fault) = check(&self.layout, plan, is_rotation(kind)) {
             return Err(ClaimWhy::Unfit { fault });
         }
@@ -252,7 +257,6 @@ impl Board {
             parents: _,
             touches: _,
         } = plan;
-        let _ = self.layout.size();
         let place = self.history.length();
         let state = self
             .ledger

@@ -16,12 +16,13 @@ ghost use Rattle.board_core.specs.History.{History, steps, taken_states};
 ghost use Rattle.board_core.specs.Legal.{Allowed, ClaimCell, Job};
 ghost use Rattle.board_core.specs.View.{turns_of, LeastWait};
 ghost use Rattle.board_core.specs.Limits.{WithinLimits};
+ghost use Rattle.board_core.specs.Suits.{HaveLetters, IsOpenFor};
 ghost use Rattle.board_core.specs.Bits.{value_in};
 ghost use Rattle.board_core.specs.Books.{HasMakersOf, CanDeliver, NamesBelow, next_state};
 ghost use Rattle.board_core.specs.Cells.{LeastTaken};
 ghost use Rattle.board_core.specs.Causes.{DiffersAt, EntryOf};
 ghost use Rattle.board_core.specs.Uses.{IsOrderOf};
-ghost use Rattle.board_core.specs.Kept.{Covers, Kept};
+ghost use Rattle.board_core.specs.Kept.{HasProduct, Kept};
 ghost use Rattle.board_core.specs.Position.{job_with};
 ghost use Rattle.board_core.specs.declared.board.Standing.{Standing as Standings};
 ghost use Rattle.std.specs.Option.{option_to_list};
@@ -78,6 +79,8 @@ impl Ledger {
         requires order { IsOrderOf products.now order }
         requires pool { Recounts pool [] [] }
         requires makers { HasMakersOf layout.now pool.makers }
+        requires open { IsOpenFor layout.now products.now }
+        requires letters { HaveLetters products.now }
         ensures { IfOk result (Kept (job_with products.now layout.now pool) []) }
     {
         let n = products.len();
@@ -104,7 +107,7 @@ impl Ledger {
 
     /// The least earlier product that doesn't commute with this one and isn't done.
     pub fn waits_on(&self, p: u32) -> Option<u32>
-        requires { Covers self.now p }
+        requires { HasProduct self.now p }
         ensures { (j : Job) (h : History) → Kept j h self.now → p < length j.products → LeastWait j.products h p result }
     {
         self.order.waits_on(p, &self.done)
@@ -135,7 +138,8 @@ impl Ledger {
     pub fn show_axis(&self, own: &Product, into: &mut Product)
         requires own { OfLength (qubits self.now.frame) own.now }
         requires room { OfLength (qubits self.now.frame) into.old }
-        ensures { (j : Job) (h : History) → Kept j h self.now → into.new ≡ carry (turns_of j.products h) own.now }
+        ensures axis { (j : Job) (h : History) → Kept j h self.now → into.new ≡ carry (turns_of j.products h) own.now }
+        ensures long { length into.new.letters ≡ length into.old.letters }
     {
         self.frame.image(own, into);
     }
@@ -210,7 +214,7 @@ impl Ledger {
     /// Notes a rotation's outcome.
     pub fn rotate(&mut self, own: &Product, raw: bool, x: bool, p: u32, place: u32)
         requires own { OfLength (qubits self.old.frame) own.now }
-        requires covers { Covers self.old p }
+        requires covers { HasProduct self.old p }
         ensures { (j : Job) (h : History) (s : Statics) → Kept j h self.old → slice_get j.products p ≡ Some s → s.axis ≡ own.now → Allowed j h (entry.Deliver p (given.Rotation raw x)) → place ≡ length h → Kept j (h ++ entry.Deliver p (given.Rotation raw x) ∷ []) self.new }
     {
         let effective = effective_now(&self.frame, own, &mut self.scratch, raw);
@@ -221,7 +225,7 @@ impl Ledger {
     /// Notes a measurement's outcome.
     pub fn measure(&mut self, own: &Product, raw: bool, bit: u32, p: u32, place: u32)
         requires own { OfLength (qubits self.old.frame) own.now }
-        requires covers { Covers self.old p }
+        requires covers { HasProduct self.old p }
         requires bit { bit < length self.old.bits }
         ensures { (j : Job) (h : History) (s : Statics) → Kept j h self.old → slice_get j.products p ≡ Some s → s.axis ≡ own.now → s.kind ≡ Measure bit → Allowed j h (entry.Deliver p (given.Measure raw)) → place ≡ length h → Kept j (h ++ entry.Deliver p (given.Measure raw) ∷ []) self.new }
     {
@@ -233,7 +237,7 @@ impl Ledger {
     /// Notes a settling.
     pub fn settle(&mut self, own: &Product, flip: bool, p: u32, place: u32)
         requires own { OfLength (qubits self.old.frame) own.now }
-        requires covers { Covers self.old p }
+        requires covers { HasProduct self.old p }
         ensures { (j : Job) (h : History) (s : Statics) → Kept j h self.old → slice_get j.products p ≡ Some s → s.axis ≡ own.now → Allowed j h (entry.Settle p flip) → place ≡ length h → Kept j (h ++ entry.Settle p flip ∷ []) self.new }
     {
         correct_settled(&mut self.frame, own, flip);
@@ -309,7 +313,7 @@ pub fn note_outcome(
     place: u32,
 ) -> Entry
     requires own { OfLength (qubits ledger.old.frame) product.now.axis }
-    requires covers { Covers ledger.old p }
+    requires covers { HasProduct ledger.old p }
     requires bits { NamesBelow (length ledger.old.bits) product.now.kind }
     ensures { (j : Job) (h : History) → Kept j h ledger.old → CanDeliver j h p product.now given → place ≡ length h → EntryOf p given result × Allowed j h result × Kept j (h ++ result ∷ []) ledger.new }
 {

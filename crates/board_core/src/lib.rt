@@ -13,6 +13,9 @@ mod frames;
 mod judging;
 mod laws;
 mod ledger;
+mod makers;
+#[cfg(test)]
+mod tests;
 mod waiting;
 
 pub use board::{
@@ -24,6 +27,7 @@ pub use laws::{
     law_apart, law_axis_known, law_claims, law_frame, law_headline, law_next, law_order, law_short,
     law_states, law_third,
 };
+pub use makers::pool_of;
 use patch_layout::CellList;
 use pauli_product::Product;
 use source_model::Given;

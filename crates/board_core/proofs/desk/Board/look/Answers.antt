@@ -27,7 +27,7 @@ returns-clause-shown c =
       rotation = c.is_rotation-look.ensures ∙ ap is_rotation s.2;
       taken = ap (λ (x : Standing). x.claim) st;
       waits = c.waits_on-look.ensures c.args.self.now.job (past c.args.self.now) k (slice_get_within c.args.self.now.job.products c.args.p s.0 s.1);
-      axis = c.show_axis.ensures c.args.self.now.job (past c.args.self.now) k ∙ ap (λ (x : Static). carry (turns_of c.args.self.now.job.products (past c.args.self.now)) x.axis) same;
+      axis = c.show_axis.ensures.axis c.args.self.now.job (past c.args.self.now) k ∙ ap (λ (x : Static). carry (turns_of c.args.self.now.job.products (past c.args.self.now)) x.axis) same;
       held = subst (λ (x : List (Option ℕ)). HoldersAre c.args.self.now.job (past c.args.self.now) x) (sym (c.copy_from.ensures ∙ c.holders.ensures)) k.holders;
       ready-are = c.show_ready.ensures c.args.self.now.job (past c.args.self.now) k;
     }

@@ -8,7 +8,7 @@ pub returns-in-Some : goal.returns-in-Some
 returns-in-Some c = unfit c.args.self.now c.args.plan.now c.args.kind c.is_rotation.result c.self.inside.layout c.requires.axis c.requires.kind (ap (λ (b : Position). b.job.grid) c.self.view_is) c.is_rotation.ensures c.in-Some.fault c.in-Some.ensures.first
 
 pub least_held-requires-clause-few : goal.least_held-requires-clause-few
-least_held-requires-clause-few c = few_cells c.args.self.now c.args.plan.now c.args.kind c.is_rotation.result c.self.inside.layout c.requires.axis c.requires.kind (ap (λ (b : Position). b.job.grid) c.self.view_is) c.is_rotation.ensures c.in_default.ensures.first c.cells-cells.result.now c.cells-cells.ensures c.size.ensures.sound
+least_held-requires-clause-few c = few_cells c.args.self.now c.args.plan.now c.args.kind c.is_rotation.result c.self.inside.layout c.requires.axis c.requires.kind (ap (λ (b : Position). b.job.grid) c.self.view_is) c.is_rotation.ensures c.in_default.ensures.first c.cells-cells.result.now c.cells-cells.ensures c.self.invariant.sound
 
 pub least_held-requires-clause-cells : goal.least_held-requires-clause-cells
 least_held-requires-clause-cells c = cells_within c.args.self.now c.args.plan.now c.args.kind c.is_rotation.result c.self.inside.layout c.requires.axis c.requires.kind (ap (λ (b : Position). b.job.grid) c.self.view_is) c.is_rotation.ensures c.in_default.ensures.first c.cells-cells.result.now c.cells-cells.ensures
