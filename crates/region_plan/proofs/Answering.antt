@@ -11,6 +11,7 @@ use Rattle.pauli_product.specs.Signed.{Signed}
 use Rattle.patch_layout.specs.declared.look.Look.{Look}
 use Rattle.patch_layout.specs.declared.plan.Plan.{Plan}
 use Rattle.patch_layout.specs.declared.layout.Side.{Side}
+use Rattle.patch_layout.specs.declared.layout.Side.TheVariants as side
 use Rattle.patch_layout.specs.Grid.{Grid, Sound, IsAncilla}
 use Rattle.patch_layout.specs.Region.{Fit, Touches, wanted_sides, sides_of, sides_from, port_side, OnSide}
 use Rattle.patch_layout.specs.Joined.{Grown}
@@ -21,11 +22,14 @@ use Rattle.region_plan.specs.Growing.{CutOff}
 use Rattle.region_plan.specs.Tree.{cells_in}
 use Rattle.region_plan.specs.Ways.{Sprung, Served}
 use Rattle.region_plan.specs.Answer.{GrownFrom, GrownFromLeast, IsRegion}
-use Rattle.region_plan.specs.Finish.{Planning, Finished, Through, Offered, Found}
+use Rattle.region_plan.specs.Finish.{Planning, Finished, Through, Found}
+use Rattle.region_plan.specs.Ports.{NoneOn, BestWay}
 use Rattle.region_plan.specs.declared.growth.Region.{Region}
+use Rattle.region_plan.specs.declared.ports.Way.{Way}
 use Rattle.patch_layout.proofs.Fits.{certified_fits}
 use Rattle.patch_layout.proofs.Certifying.{all_front}
 use Rattle.region_plan.proofs.Regions.{region_one, grown_region, no_region, in_head}
+use Rattle.region_plan.proofs.Porting.{port_last}
 
 -- a letter asks for a side
 some_of : (q : ℕ) (l : Letter) (rest : List Side) → l ≢ letter.I → 0 < length (sides_of q l ++ rest)
@@ -76,7 +80,7 @@ on_first g Free (x ∷ xs) s c cells e (free, on, grown) = let O : Side → Type
 
 -- the plan through a port
 pub through_some : (g : Grid) (look : Look) (port : Option ℕ) (s : Side) (sides : List Side) (found : Option Region) (r : Region) (p : Plan) → sides ≡ wanted_sides look.axis port → s ≡ get_or sides 0 s → 0 < length sides
-    → found ≡ Some r → Served g (Free g look.held) s sides found → Finished g look port (cells_in r.tree.items) p → Through g look port (Some p)
+    → found ≡ Some r → Served g (Free g look.held) s sides found → Finished g look port (cells_in r.tree.tree) p → Through g look port (Some p)
 through_some g look port s sides found r p asked first-is some found-is served (planning, perm) =
     let P : Option Region → Type 0 = λ o. Served g (Free g look.held) s sides o in
     let (first, on, sprung, least) = subst P found-is served in
@@ -84,7 +88,7 @@ through_some g look port s sides found r p asked first-is some found-is served (
       planning,
       subst Q asked (
         first,
-        grown_from g (Free g look.held) sides s first p.cells first-is some sprung.free on (grown_permuted g (Free g look.held) (first ∷ []) sides (cells_in r.tree.items) p.cells sprung.grown perm),
+        grown_from g (Free g look.held) sides s first p.cells first-is some sprung.free on (grown_permuted g (Free g look.held) (first ∷ []) sides (cells_in r.tree.tree) p.cells sprung.grown perm),
         λ c others less grown.
             let (free, on-side) = on_first g (Free g look.held) sides s c others first-is grown in
             cut_grows_not g (Free g look.held) sides c others (λ x f. f.0) (least c less free on-side) grown,
@@ -111,18 +115,6 @@ through_none g look port s sides found asked first-is some found-is served (cell
 abbrev pub NoneThrough : Grid → Look → ℕ → Type 0
 NoneThrough g look n = (f : ℕ) → f < n → IsOffered g look f → Serves g look (Some f) → ⊥
 
-pub none_more : (g : Grid) (look : Look) (n : ℕ) (found : Option Plan) → NoneThrough g look n → found ≡ None → Offered g look n found → NoneThrough g look (n + 1)
-none_more g look n found none found-is here f lt offered serves = elim (cases_lt f n) [
-  | inl less ↦ none f less offered serves
-  | inr ge ↦
-      let same : f ≡ n = omega arith in
-      let P : Option Plan → Type 0 = λ o. Offered g look n o in
-      let none' : Offered g look n None = subst P found-is here in
-      let Q : ℕ → Type 0 = λ x. IsOffered g look x × Serves g look (Some x) in
-      let both = subst Q same (offered, serves) in
-      none' both.0 both.1
-]
-
 -- the region of a plan for a look
 pub region_of : (g : Grid) (look : Look) (port : Option ℕ) (p : Plan) → Planning g look port p → MayTake g look port → is_some port ≡ look.rotation → IsRegion g look p
 region_of g look port p planning may kind =
@@ -137,10 +129,8 @@ region_of g look port p planning may kind =
     }
 
 -- the first factory that is offered and serves
-pub found_some : (g : Grid) (look : Look) (n : ℕ) (found : Option Plan) (p : Plan) → look.rotation ≡ true → NoneThrough g look n → found ≡ Some p → Offered g look n found → Found g look (Some p)
-found_some g look n found p rotation none found-is here =
-    let P : Option Plan → Type 0 = λ o. Offered g look n o in
-    let (offered, (planning, grown)) = subst P found-is here in
+pub found_some : (g : Grid) (look : Look) (n : ℕ) (p : Plan) → look.rotation ≡ true → NoneThrough g look n → IsOffered g look n → Through g look (Some n) (Some p) → Found g look (Some p)
+found_some g look n p rotation none offered (planning, grown) =
     let Q : Option ℕ → Type 0 = λ o. GrownFromLeast g (Free g look.held) (wanted_sides look.axis o) p.cells in (
       region_of g look (Some n) p planning (rotation, offered) (sym rotation),
       (
@@ -174,17 +164,13 @@ found_through g look (Some p) measured (planning, grown) =
       ),
     )
 
-pub offered_through : (g : Grid) (look : Look) (f : ℕ) (found : Option Plan) → IsOffered g look f → Through g look (Some f) found → Offered g look f found
-offered_through g look f None offered none = λ _ serves. none serves
-offered_through g look f (Some p) offered both = (offered, both)
-
 -- what serves grew over the wanted sides
 pub served_region : (g : Grid) (look : Look) (port : Option ℕ) (s : Side) (sides : List Side) (found : Option Region) (r : Region) → sides ≡ wanted_sides look.axis port
-    → found ≡ Some r → Served g (Free g look.held) s sides found → (first : ℕ) × Sprung g (Free g look.held) (wanted_sides look.axis port) first r.tree.items r.touched.items
+    → found ≡ Some r → Served g (Free g look.held) s sides found → (first : ℕ) × Sprung g (Free g look.held) (wanted_sides look.axis port) first r.tree.tree r.touched.items
 served_region g look port s sides found r asked found-is served =
     let P : Option Region → Type 0 = λ o. Served g (Free g look.held) s sides o in
     let (first, on, sprung, least) = subst P found-is served in
-    let Q : List Side → Type 0 = λ ss. Sprung g (Free g look.held) ss first r.tree.items r.touched.items in
+    let Q : List Side → Type 0 = λ ss. Sprung g (Free g look.held) ss first r.tree.tree r.touched.items in
     (first, subst Q asked sprung)
 
 pub lacks : (look : Look) (r : Bool) → look.rotation ≡ true → (IsTrue r ↔ ((f : ℕ) × HasState look f)) → IsTrue (not r) ↔ LacksState look
@@ -203,26 +189,34 @@ region_fits g look p sound r =
     let P : Signed → Type 0 = λ a. Fit g a p.port p.cells in
     (subst P r.axis (certified_fits (case_of g look.rotation p) sound r.certified), r.free)
 
--- the least factory that is offered serves
-pub found_first : (g : Grid) (look : Look) (n : ℕ) (found : Option Plan) → look.rotation ≡ true → IsOffered g look n → ((h : ℕ) → h < n → IsOffered g look h → ⊥) → Through g look (Some n) found
-    → IfSome found (λ p. Found g look (Some p))
-found_first g look n None rotation offered least through = tt
-found_first g look n (Some p) rotation offered least through =
-    found_some g look n (Some p) p rotation (λ f lt has serves. absurd (least f lt has)) refl (offered, through)
+head_kept : (sides more : List Side) (s : Side) → 0 < length sides → s ≡ get_or sides 0 s → s ≡ get_or (sides ++ more) 0 s
+head_kept [] more s some e = absurd (omega arith)
+head_kept (x ∷ xs) more s some e = e
 
-without_port : (xs : List Side) → xs ++ [] ≡ xs
-without_port [] = refl
-without_port (x ∷ xs) = let e = without_port xs in grind arith
+head_to : (axis : Signed) (sides : List Side) (s : Side) (f : ℕ) → sides ≡ wanted_sides axis None → s ≡ get_or sides 0 s → 0 < length sides
+    → (s ≡ get_or (wanted_sides axis (Some f)) 0 s) × (0 < length (wanted_sides axis (Some f)))
+head_to axis sides s f asked first-is some =
+    let P : List Side → Type 0 = λ xs. (s ≡ get_or xs 0 s) × (0 < length xs) in
+    subst P (port_last axis sides f asked) (head_kept sides (side.Port f ∷ []) s some first-is, omega (arith, length-append sides (side.Port f ∷ [])))
 
--- where the patches can't be joined no region fits through any port
-pub patches_apart : (g : Grid) (look : Look) (s : Side) (sides : List Side) (found : Option Region) → sides ≡ wanted_sides look.axis None → s ≡ get_or sides 0 s → 0 < length sides
-    → found ≡ None → Served g (Free g look.held) s sides found → (port : Option ℕ) → Serves g look port → ⊥
-patches_apart g look s sides found asked first-is some found-is served port (cells, (fit, all)) =
-    let P : Option Region → Type 0 = λ o. Served g (Free g look.held) s sides o in
-    let none : Served g (Free g look.held) s sides None = subst P found-is served in
-    let Q : List Side → Type 0 = λ xs. All (Touches g cells) xs in
-    let letters : All (Touches g cells) (sides_from 0 look.axis.letters) = all_front (Touches g cells) (sides_from 0 look.axis.letters) (port_side port) fit.touched in
-    let touched : All (Touches g cells) sides = subst Q (sym asked) (subst Q (sym (without_port (sides_from 0 look.axis.letters))) letters) in
-    let (d, has, on) = touched_first g cells sides s first-is some touched in
-    let (x, among, cut) = none d (All-contains (Free g look.held) cells d all has) on in
-    no_region g (Free g look.held) d x cut cells all fit.joined has (All-contains (Touches g cells) sides x touched among)
+none_on : (g : Grid) (look : Look) (s : Side) (sides : List Side) (n : ℕ) → sides ≡ wanted_sides look.axis None → s ≡ get_or sides 0 s → 0 < length sides → NoneOn g look s n → NoneThrough g look n
+none_on g look s sides n asked first-is some none f lt offered =
+    let (head, some') = head_to look.axis sides s f asked first-is some in
+    through_none g look (Some f) s (wanted_sides look.axis (Some f)) None refl head some' refl (none f lt offered)
+
+pub best_some : (g : Grid) (look : Look) (s : Side) (found : Option Way) (w : Way) → found ≡ Some w → BestWay g look s found → BestWay g look s (Some w)
+best_some g look s found w e best = let P : Option Way → Type 0 = λ o. BestWay g look s o in subst P e best
+
+-- a rotation's plan
+pub found_way : (g : Grid) (look : Look) (s : Side) (sides : List Side) (w : Way) (p : Plan) → look.rotation ≡ true → sides ≡ wanted_sides look.axis None → s ≡ get_or sides 0 s → 0 < length sides
+    → BestWay g look s (Some w) → Finished g look (Some w.factory) (cells_in w.region.tree.tree) p → Found g look (Some p)
+found_way g look s sides w p rotation asked first-is some (offered, none, served) finished =
+    let (head, some') = head_to look.axis sides s w.factory asked first-is some in
+    found_some g look w.factory p rotation (none_on g look s sides w.factory asked first-is some none) offered
+    (through_some g look (Some w.factory) s (wanted_sides look.axis (Some w.factory)) (Some w.region) w.region p refl head some' refl served finished)
+
+pub found_no_way : (g : Grid) (look : Look) (s : Side) (sides : List Side) (found : Option Way) → look.rotation ≡ true → sides ≡ wanted_sides look.axis None → s ≡ get_or sides 0 s → 0 < length sides
+    → found ≡ None → BestWay g look s found → Found g look None
+found_no_way g look s sides found rotation asked first-is some none-is best =
+    let P : Option Way → Type 0 = λ o. BestWay g look s o in
+    found_none g look (length look.ready) rotation (omega arith) (none_on g look s sides (length look.ready) asked first-is some (subst P none-is best))

@@ -10,3 +10,5 @@ pub mod Serving
 pub mod Finishing
 pub mod Answering
 pub mod TwoPorts
+pub mod Marking
+pub mod Porting

@@ -79,7 +79,7 @@ region_more g Free T have added anc r adds =
           (d, elim at' [ inl e ↦ (let S : ℕ → Type 0 = λ y. Contains all y in subst S e from-in) | inr more ↦ Contains-append_right have added d more ], t),
     )
 
-only : (c x : ℕ) → Contains (c ∷ []) x → c ≡ x
+pub only : (c x : ℕ) → Contains (c ∷ []) x → c ≡ x
 only c x has = elim (in_cases c [] x has) [ inl e ↦ e | inr none ↦ absurd (omega (arith, none.1)) ]
 
 -- one cell is a region

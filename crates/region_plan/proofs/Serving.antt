@@ -84,7 +84,7 @@ pub served_some : (g : Grid) (Free : ℕ → Type 0) (s : Side) (sides : List Si
     → Served g Free s sides (Some r)
 served_some g Free s sides pair n cell found r on ascend two tried at-n found-is at' =
     let Q : Option Region → Type 0 = λ o. At g Free cell sides o in
-    let (first, cell-is, sprung) = subst Q found-is at' in
+    let (first, cell-is, sprung, tables) = subst Q found-is at' in
     let P : Option ℕ → Type 0 = λ o. slice_get pair n ≡ Some o in
     let here : slice_get pair n ≡ Some (Some first) = subst P cell-is at-n in (
       first,

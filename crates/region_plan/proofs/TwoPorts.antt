@@ -3,7 +3,7 @@ use Rattle.std.proofs.Common.{◌≡◌, ℕ, zero, suc, Bool, true, ◌⊎◌, 
 use Rattle.patch_layout.specs.declared.layout.Site.{Site}
 use Rattle.patch_layout.specs.declared.layout.Site.TheVariants as site
 use Rattle.patch_layout.specs.Grid.{Sound}
-use Rattle.patch_layout.specs.Kept.{grid_of, Ranged}
+use Rattle.patch_layout.specs.Kept.{grid_of}
 
 abbrev pub sites : List Site
 sites =
@@ -25,19 +25,19 @@ the_patch (suc (suc (suc (suc (suc (suc (suc (suc (suc (suc zero)))))))))) q lev
 the_patch (suc (suc (suc (suc (suc (suc (suc (suc (suc (suc (suc zero))))))))))) q level e = absurd (cc)
 the_patch (suc (suc (suc (suc (suc (suc (suc (suc (suc (suc (suc (suc c)))))))))))) q level e = absurd (cc)
 
-the_port : (c f : ℕ) (level : Bool) (store : ℕ) → slice_get sites c ≡ Some (site.Port f level store) → ((c ≡ 6) × (f ≡ 1)) ⊎ ((c ≡ 11) × (f ≡ 0))
+the_port : (c f : ℕ) (level : Bool) (store : ℕ) → slice_get sites c ≡ Some (site.Port f level store) → ((c ≡ 6) × (f ≡ 1) × (store ≡ 1)) ⊎ ((c ≡ 11) × (f ≡ 0) × (store ≡ 1))
 the_port zero f level store e = absurd (cc)
 the_port (suc zero) f level store e = absurd (cc)
 the_port (suc (suc zero)) f level store e = absurd (cc)
 the_port (suc (suc (suc zero))) f level store e = absurd (cc)
 the_port (suc (suc (suc (suc zero)))) f level store e = absurd (cc)
 the_port (suc (suc (suc (suc (suc zero))))) f level store e = absurd (cc)
-the_port (suc (suc (suc (suc (suc (suc zero)))))) f level store e = inl (refl, grind arith)
+the_port (suc (suc (suc (suc (suc (suc zero)))))) f level store e = inl (refl, grind arith, grind arith)
 the_port (suc (suc (suc (suc (suc (suc (suc zero))))))) f level store e = absurd (cc)
 the_port (suc (suc (suc (suc (suc (suc (suc (suc zero)))))))) f level store e = absurd (cc)
 the_port (suc (suc (suc (suc (suc (suc (suc (suc (suc zero))))))))) f level store e = absurd (cc)
 the_port (suc (suc (suc (suc (suc (suc (suc (suc (suc (suc zero)))))))))) f level store e = absurd (cc)
-the_port (suc (suc (suc (suc (suc (suc (suc (suc (suc (suc (suc zero))))))))))) f level store e = inr (refl, grind arith)
+the_port (suc (suc (suc (suc (suc (suc (suc (suc (suc (suc (suc zero))))))))))) f level store e = inr (refl, grind arith, grind arith)
 the_port (suc (suc (suc (suc (suc (suc (suc (suc (suc (suc (suc (suc c)))))))))))) f level store e = absurd (cc)
 
 pub sound : (xs : List Site) → xs ≡ sites → Sound (grid_of 2 6 xs)
@@ -54,12 +54,9 @@ sound xs e =
         | inl a ↦ elim (the_port d f m t ed) [ inl b ↦ omega (arith, a.0, b.0) | inr b ↦ absurd (omega (arith, a.1, b.1)) ]
         | inr a ↦ elim (the_port d f m t ed) [ inl b ↦ absurd (omega (arith, a.1, b.1)) | inr b ↦ omega (arith, a.0, b.0) ]
       ];
+      patches = λ q c (l, e'). omega (arith, (the_patch c q l e').1);
+      stores = λ f store (c, l, e'). elim (the_port c f l store e') [
+        | inl a ↦ (omega (arith, a.1), omega (arith, a.2), omega (arith, a.2))
+        | inr a ↦ (omega (arith, a.1), omega (arith, a.2), omega (arith, a.2))
+      ];
     })
-
-pub ranged : (xs : List Site) → xs ≡ sites → Ranged xs
-ranged xs e =
-    let P : List Site → Type 0 = λ ys. Ranged ys in
-    subst P (sym e) (
-      λ c q level h. omega (arith, (the_patch c q level h).1),
-      λ c f level store h. elim (the_port c f level store h) [ inl a ↦ omega (arith, a.1) | inr a ↦ omega (arith, a.1) ],
-    )

@@ -7,7 +7,7 @@ use Rattle.patch_layout.specs.Grid.{Grid}
 use Rattle.patch_layout.specs.Region.{wanted_sides}
 use Rattle.patch_layout.specs.Certificate.{Certified}
 use Rattle.patch_layout.specs.Case.{case_of}
-use Rattle.region_plan.specs.Free.{Free, MayTake, IsOffered, Serves}
+use Rattle.region_plan.specs.Free.{Free, MayTake, Serves}
 use Rattle.region_plan.specs.Answer.{IsRegion, GrownFromLeast, LeastJoined}
 
 -- the table has the place of each cell of the list
@@ -37,11 +37,6 @@ Finished g look port cells p = Planning g look port p × IsPermutation cells p.c
 abbrev pub Through : Grid → Look → Option ℕ → Option Plan → Type 0
 Through g look port None = Serves g look port → ⊥
 Through g look port (Some p) = Planning g look port p × GrownFromLeast g (Free g look.held) (wanted_sides look.axis port) p.cells
-
--- of a factory that isn't offered there is no plan
-abbrev pub Offered : Grid → Look → ℕ → Option Plan → Type 0
-Offered g look f None = IsOffered g look f → Serves g look (Some f) → ⊥
-Offered g look f (Some p) = IsOffered g look f × Through g look (Some f) (Some p)
 
 -- the plan, or none where through nothing that may be taken a fit region lies in the free cells
 abbrev pub Found : Grid → Look → Option Plan → Type 0

@@ -5,3 +5,4 @@ pub mod Walk
 pub mod Tree
 pub mod Ways
 pub mod Finish
+pub mod Ports

@@ -2,7 +2,7 @@
 use Rattle.std.specs.Prelude.{◌≡◌, ◌≢◌, ℕ, Bool, true, false, ◌<◌, AllPairs, length, slice_get, List, [], ◌∷◌, Option, Some, None}
 use Rattle.patch_layout.specs.declared.walk.Reached.{Reached}
 use Rattle.patch_layout.specs.declared.layout.Side.{Side}
-use Rattle.patch_layout.specs.Grid.{Grid}
+use Rattle.patch_layout.specs.Grid.{Grid, Sound}
 use Rattle.patch_layout.specs.Region.{OnSide}
 use Rattle.patch_layout.specs.Spread.{starting}
 use Rattle.patch_layout.specs.Joined.{Grown}
@@ -34,13 +34,17 @@ abbrev pub SprungFrom : Grid → (ℕ → Type 0) → List Side → List Reached
 SprungFrom g Free sides tree after touched true = GrownOver g Free sides tree after touched
 SprungFrom g Free sides tree after touched false = CutOff g Free (cells_in tree) sides
 
+-- the grid is sound, and the tables of the region have an entry for each cell
+abbrev pub HasTables : Grid → Region → Type 0
+HasTables g r = Sound g × (r.tree.size ≡ length g.sites) × (length r.seen ≡ length g.sites)
+
 -- a region that grew from this cell, where there is one and it is free, or none because it is cut off from a side
 abbrev pub At : Grid → (ℕ → Type 0) → Option ℕ → List Side → Option Region → Type 0
 At g Free cell sides None = (c : ℕ) → cell ≡ Some c → Free c → CutOff g Free (c ∷ []) sides
-At g Free cell sides (Some r) = (first : ℕ) × (cell ≡ Some first) × Sprung g Free sides first r.tree.items r.touched.items
+At g Free cell sides (Some r) = (first : ℕ) × (cell ≡ Some first) × Sprung g Free sides first r.tree.tree r.touched.items × HasTables g r
 
 -- a region from the least free cell on the side that isn't cut off from the sides, or none because each is
 abbrev pub Served : Grid → (ℕ → Type 0) → Side → List Side → Option Region → Type 0
 Served g Free s sides None = (c : ℕ) → Free c → OnSide g s c → CutOff g Free (c ∷ []) sides
 Served g Free s sides (Some r) =
-    (first : ℕ) × OnSide g s first × Sprung g Free sides first r.tree.items r.touched.items × ((c : ℕ) → c < first → Free c → OnSide g s c → CutOff g Free (c ∷ []) sides)
+    (first : ℕ) × OnSide g s first × Sprung g Free sides first r.tree.tree r.touched.items × ((c : ℕ) → c < first → Free c → OnSide g s c → CutOff g Free (c ∷ []) sides)

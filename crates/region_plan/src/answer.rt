@@ -32,6 +32,8 @@ pub enum Planned {
 }
 
 /// Plans a region for a look: joined side by side in the order of `touches`, each time by the least number of free cells, from the least cell of the first side that serves, through the least unheld port with a ready state that serves.
+///
+/// A region grows over the sides of the patches once at most from each of the two cells of the first side, by one walk for each side. Each port is then tried by one walk to the region at hand. A walk goes to each cell once at most, so a plan takes time of twice the cells times the sides and ports together. Where the first cell serves through the first port that is offered, one region grows, and one port is tried.
 pub fn plan(alloc: Global, layout: &Layout, look: &Look) -> Planned
     requires held { length look.now.held ≡ length layout.now.sites }
     requires letter { (q : ℕ) × HasLetter look.now.axis q }

@@ -91,13 +91,14 @@ pub(crate) fn finish(
     port: Option<u32>,
     region: Region,
 ) -> Result<Plan, Memory>
-    requires { (first : ℕ) × Sprung layout.now (Free layout.now look.now.held) (wanted_sides look.now.axis port) first region.tree.items region.touched.items }
-    ensures { IfOk result (Finished layout.now look.now port (cells_in region.tree.items)) }
+    requires { (first : ℕ) × Sprung layout.now (Free layout.now look.now.held) (wanted_sides look.now.axis port) first region.tree.tree region.touched.items }
+    ensures { IfOk result (Finished layout.now look.now port (cells_in region.tree.tree)) }
 {
-    let cells = in_order(alloc, &region.tree)?;
+    let tree = region.tree.as_slice();
+    let cells = in_order(alloc, tree)?;
     let places = places_of(alloc, layout.size(), &cells)?;
-    let parents = parents_of(alloc, &cells, &region.tree, &places)?;
-    let touches = touches_of(alloc, &region.tree, &region.touched, &places)?;
+    let parents = parents_of(alloc, &cells, tree, &places)?;
+    let touches = touches_of(alloc, tree, &region.touched, &places)?;
     let axis = look.axis.copy(alloc)?;
     Ok(Plan {
         number: look.product,

@@ -8,26 +8,29 @@ ghost use Rattle.region_plan.specs.Tree.{cells_in, Rooted, Grafted};
 ghost use Rattle.region_plan.specs.Ways.{At, Served, SprungFrom};
 
 use crate::free::free_one;
+use crate::marks::Marks;
 use crate::tree::Tree;
 use crate::walk::seek;
 use patch_base::Memory;
 use patch_layout::{Layout, Reached, Side};
 use std::alloc::Global;
 
-/// A region in the order of its growth, and the place of a cell on each of its sides.
+/// A region, the place of a cell on each of its sides, and the marks and the queue of its walks.
 #[derive(Drop)]
 pub(crate) struct Region {
-    pub(crate) tree: Vec<Reached>,
+    pub(crate) tree: Tree,
     pub(crate) touched: Vec<u32>,
+    pub(crate) seen: Marks,
+    pub(crate) queue: Vec<Reached>,
 }
 
 /// Joins the region to the side by the least number of free cells, and tells the place of its cell there.
-fn join(
+pub(crate) fn join(
     layout: &Layout,
     held: &[Option<u32>],
     tree: &mut Tree,
     side: Side,
-    seen: &mut [bool],
+    seen: &mut Marks,
     queue: &mut Vec<Reached>,
 ) -> Result<Option<u32>, Memory>
     requires size { tree.old.size ≡ length layout.now.sites }
@@ -37,6 +40,7 @@ fn join(
     ensures grafted { IfOk result (Grafted layout.now (Free layout.now held.now) (OnSide layout.now side) tree.old.tree tree.new.tree) }
     ensures rooted { IfOk result (λ _. (first : ℕ) → Rooted layout.now (Free layout.now held.now) first tree.old.tree → Rooted layout.now (Free layout.now held.now) first tree.new.tree) }
     ensures size { IfOk result (λ _. tree.new.size ≡ tree.old.size) }
+    ensures marks { IfOk result (λ _. length seen.new ≡ length seen.old) }
 {
     let Some(met) = seek(layout, held, tree, &layout.side(side), seen, queue)? else {
         return Ok(None);
@@ -57,7 +61,7 @@ fn grow(
     tree: &mut Tree,
     sides: &[Side],
     touched: &mut Vec<u32>,
-    seen: &mut [bool],
+    seen: &mut Marks,
     queue: &mut Vec<Reached>,
 ) -> Result<bool, Memory>
     requires size { tree.old.size ≡ length layout.now.sites }
@@ -66,7 +70,9 @@ fn grow(
     requires free { All (Free layout.now held.now) (cells_in tree.old.tree) }
     requires distinct { AllPairs (λ a b. a ≢ b) (cells_in tree.old.tree) }
     requires touched { touched.old.items ≡ [] }
-    ensures { IfOk result (SprungFrom layout.now (Free layout.now held.now) sides.now tree.old.tree tree.new.tree touched.new.items) }
+    ensures sprung { IfOk result (SprungFrom layout.now (Free layout.now held.now) sides.now tree.old.tree tree.new.tree touched.new.items) }
+    ensures size { IfOk result (λ _. tree.new.size ≡ tree.old.size) }
+    ensures marks { IfOk result (λ _. length seen.new ≡ length seen.old) }
 {
     for side in sides {
         match join(layout, held, tree, *side, seen, queue)? {
@@ -91,7 +97,7 @@ fn sprout(
     let size = layout.size();
     let mut tree = Tree::new(alloc, size, first)?;
     let mut touched = Vec::new(alloc);
-    let mut seen = vec![in alloc; false; size as usize]?;
+    let mut seen = Marks::new(alloc, size)?;
     let mut queue = Vec::new(alloc);
     if grow(
         layout,
@@ -102,15 +108,19 @@ fn sprout(
         &mut seen,
         &mut queue,
     )? {
-        let tree = tree.into_vec();
-        Ok(Some(Region { tree, touched }))
+        Ok(Some(Region {
+            tree,
+            touched,
+            seen,
+            queue,
+        }))
     } else {
         Ok(None)
     }
 }
 
 /// The region that grows from this cell, where there is one and it is free.
-fn region_at(
+pub(crate) fn region_at(
     alloc: Global,
     layout: &Layout,
     held: &[Option<u32>],

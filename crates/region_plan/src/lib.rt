@@ -5,6 +5,8 @@ mod answer;
 mod certificate;
 mod free;
 mod growth;
+mod marks;
+mod ports;
 #[cfg(test)]
 mod tests;
 mod tree;

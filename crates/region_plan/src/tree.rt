@@ -68,10 +68,10 @@ impl Tree {
     }
 
     /// The cells, in the order of their growth.
-    pub(crate) fn into_vec(self) -> Vec<Reached>
-        ensures { result.items ≡ self.tree }
+    pub(crate) fn as_slice(&self) -> &[Reached]
+        ensures { result.now ≡ self.now.tree }
     {
-        self.tree
+        self.tree.as_slice()
     }
 }
 

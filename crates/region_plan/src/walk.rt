@@ -5,6 +5,7 @@ ghost use Rattle.patch_layout.specs.Grid.{Sound};
 ghost use Rattle.region_plan.specs.Walk.{Looked, BegunTo, Sought};
 
 use crate::free::is_free;
+use crate::marks::Marks;
 use crate::tree::Tree;
 use patch_base::Memory;
 use patch_layout::{Layout, Reached};
@@ -20,21 +21,17 @@ pub(crate) struct Met {
 fn reach(
     layout: &Layout,
     held: &[Option<u32>],
-    seen: &mut [bool],
+    seen: &mut Marks,
     queue: &mut Vec<Reached>,
     next: Reached,
 ) -> Result<(), Memory>
     requires { length seen.old ≡ length layout.now.sites }
     ensures { IfOk result (λ _. Looked layout.now held.now next seen.old queue.old.items seen.new queue.new.items) }
 {
-    let cell = next.cell as usize;
-    if cell >= seen.len() || seen[cell] {
+    if seen.has(next.cell) || !is_free(layout, held, next.cell) {
         return Ok(());
     }
-    if !is_free(layout, held, next.cell) {
-        return Ok(());
-    }
-    seen[cell] = true;
+    seen.mark(next.cell);
     queue.push(next)?;
     Ok(())
 }
@@ -44,14 +41,14 @@ fn begin(
     layout: &Layout,
     held: &[Option<u32>],
     pair: &[Option<u32>],
-    seen: &mut [bool],
+    seen: &mut Marks,
     queue: &mut Vec<Reached>,
 ) -> Result<(), Memory>
     requires { length seen.old ≡ length layout.now.sites }
     ensures { IfOk result (λ _. BegunTo layout.now held.now pair.now (length pair.now) queue.new.items seen.new) }
 {
     queue.clear();
-    seen.fill(false);
+    seen.clear();
     for start in pair {
         if let Some(cell) = start {
             let next = Reached {
@@ -71,13 +68,14 @@ pub(crate) fn seek(
     held: &[Option<u32>],
     tree: &Tree,
     pair: &[Option<u32>],
-    seen: &mut [bool],
+    seen: &mut Marks,
     queue: &mut Vec<Reached>,
 ) -> Result<Option<Met>, Memory>
     requires seen { length seen.old ≡ length layout.now.sites }
     requires few { length pair.now ≤ 4096 }
     requires sound { Sound layout.now }
-    ensures { IfOk result (Sought layout.now held.now pair.now tree.now.tree queue.new.items seen.new) }
+    ensures sought { IfOk result (Sought layout.now held.now pair.now tree.now.tree queue.new.items seen.new) }
+    ensures sizes { IfOk result (λ _. length seen.new ≡ length seen.old) }
 {
     begin(layout, held, pair, seen, queue)?;
     let mut head = 0;

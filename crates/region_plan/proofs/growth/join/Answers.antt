@@ -5,17 +5,17 @@ use Rattle.region_plan.proofs.growth.join.Goals as goal
 
 pub returns-in_default-clause-grafted : goal.returns-in_default-clause-grafted
 returns-in_default-clause-grafted c =
-    grafted_none c.args.layout.now c.args.held.now c.side.result c.args.side c.args.tree.now.tree c.seek.new.queue.items c.seek.new.seen c.in_ok-met.field-0 c.in_default.is c.in_ok-met.ensures c.side.ensures.value c.requires.free
+    grafted_none c.args.layout.now c.args.held.now c.side.result c.args.side c.args.tree.now.tree c.seek.new.queue.items c.seek.new.seen c.in_ok-met.field-0 c.in_default.is c.in_ok-met.ensures.sought c.side.ensures.value c.requires.free
 
 pub index-at-requires : goal.index-at-requires
 index-at-requires c =
-    omega (arith, c.seek.new.queue.ok.0, head_within c.args.layout.now c.args.held.now c.side.result c.args.tree.now.tree c.seek.new.queue.items c.seek.new.seen c.in_ok-met.field-0 c.in-Some.met c.in-Some.is c.in_ok-met.ensures)
+    omega (arith, c.seek.new.queue.ok.0, head_within c.args.layout.now c.args.held.now c.side.result c.args.tree.now.tree c.seek.new.queue.items c.seek.new.seen c.in_ok-met.field-0 c.in-Some.met c.in-Some.is c.in_ok-met.ensures.sought)
 
 pub back-init : goal.back-init
 back-init c =
-    let w = head_within c.args.layout.now c.args.held.now c.side.result c.args.tree.now.tree c.seek.new.queue.items c.seek.new.seen c.in_ok-met.field-0 c.in-Some.met c.in-Some.is c.in_ok-met.ensures in (
+    let w = head_within c.args.layout.now c.args.held.now c.side.result c.args.tree.now.tree c.seek.new.queue.items c.seek.new.seen c.in_ok-met.field-0 c.in-Some.met c.in-Some.is c.in_ok-met.ensures.sought in (
       back_start c.args.layout.now c.args.held.now c.side.result c.args.side c.args.tree.now.tree c.seek.new.queue.items c.seek.new.seen c.in_ok-met.field-0 c.in-Some.met c.index-at.result.now
-          c.side.ensures.value c.in-Some.is c.in_ok-met.ensures (read_at c.seek.new.queue c.in-Some.met.head c.index-at.result.now (omega (arith, w, c.seek.new.queue.ok.0)) c.index-at.ensures),
+          c.side.ensures.value c.in-Some.is c.in_ok-met.ensures.sought (read_at c.seek.new.queue c.in-Some.met.head c.index-at.result.now (omega (arith, w, c.seek.new.queue.ok.0)) c.index-at.ensures),
       refl,
     )
 

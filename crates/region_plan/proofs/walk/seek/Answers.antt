@@ -9,8 +9,8 @@ use Rattle.region_plan.proofs.walk.seek.Goals.{in-Some-neighbour+in_ok-reach, in
 pub loop-head-init : goal.loop-head-init
 loop-head-init c = seeking_start c.args.layout.now c.args.held.now c.args.pair.now c.args.tree.now.tree c.begin.new.queue.items c.begin.new.seen c.in_ok-begin.ensures c.requires.few c.requires.sound.few
 
-pub returns-in-Some : goal.returns-in-Some
-returns-in-Some c =
+pub returns-in-Some-clause-sought : goal.returns-in-Some-clause-sought
+returns-in-Some-clause-sought c =
     let is = read_at c.loop-head.queue c.loop-head.head c.index-at.result.now (omega arith) c.index-at.ensures in
     sought_some c.args.layout.now c.args.held.now c.args.pair.now c.args.tree.now.tree c.loop-head.queue.items c.loop-head.seen c.index-at.result.now (record { head = c.loop-head.head; place = c.in-Some.place })
     c.loop-head.invariant is c.in-Some.ensures
