@@ -12,3 +12,6 @@ pub mod Starts
 pub mod Files
 pub mod Allowed
 pub mod Passing
+pub mod Sole
+pub mod OneSentence
+pub mod OneTree

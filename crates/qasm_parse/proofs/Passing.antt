@@ -38,9 +38,9 @@ version_read x at e = λ r h.
     let P : Result ℕ Stop → Type 0 = λ v. Behind x v r in
     subst P (sym e) h
 
-pub statement_stops : (x : Lexed) (k : Known) (at : ℕ) (fault : Fault) → LeadsOn x k at → Stopped fault (reads one_statement (drop at (terminals x k.included)) at) → ReadsAll x (Err fault)
-statement_stops x k at Memory on s = tt
-statement_stops x k at (Stopping stop) on s = on (Err stop) (stops k at stop s)
+pub statement_stops : (x : Lexed) (k : Known) (at : ℕ) (fault : Fault) → LeadsOn x k at → at < length x.tokens → Stopped fault (reads one_statement (drop at (terminals x k.included)) at) → ReadsAll x (Err fault)
+statement_stops x k at Memory on lt s = tt
+statement_stops x k at (Stopping stop) on lt s = on (Err stop) (stops k at stop (lt, s))
 
 pub statement_breaks : (x : Lexed) (k : Known) (at end : ℕ) (s : Sentence) (fault : Fault) → LeadsOn x k at → reads one_statement (drop at (terminals x k.included)) at ≡ Ok end → Spells (sentence_text s) (terminals x k.included) at end → Meets (Err fault) (faults x k at s) (behind x k at s) → ReadsAll x (Err fault)
 statement_breaks x k at end s Memory on e spelled m = tt
@@ -83,10 +83,10 @@ standing_next x found new k next at end s h le form spelled m e =
       on = statement_read x k next at end s h.on (standing_statement x found k at end h form) (subst P h.seen spelled) m;
     }
 
-pub standing_stops : (x : Lexed) (found : List Terminal) (k : Known) (at : ℕ) (fault : Fault) → Standing x found k at → Stopped fault (reads one_statement (drop at found) at) → ReadsAll x (Err fault)
-standing_stops x found k at fault h s =
+pub standing_stops : (x : Lexed) (found : List Terminal) (k : Known) (at : ℕ) (fault : Fault) → Standing x found k at → at < length found → Stopped fault (reads one_statement (drop at found) at) → ReadsAll x (Err fault)
+standing_stops x found k at fault h lt s =
     let P : List Terminal → Type 0 = λ ts. Stopped fault (reads one_statement (drop at ts) at) in
-    statement_stops x k at fault h.on (subst P h.seen s)
+    statement_stops x k at fault h.on (omega (arith, count x k.included found h.seen, lt)) (subst P h.seen s)
 
 pub standing_breaks : (x : Lexed) (found : List Terminal) (k : Known) (at end : ℕ) (s : Sentence) (fault : Fault) → Standing x found k at → reads one_statement (drop at found) at ≡ reads done (drop end found) end → Spells (sentence_text s) found at end → Meets (Err fault) (faults x k at s) (behind x k at s) → ReadsAll x (Err fault)
 standing_breaks x found k at end s fault h form spelled m =

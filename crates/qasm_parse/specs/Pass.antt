@@ -1,5 +1,5 @@
 -- The second pass over a text: the version, and then its statements in order.
-use Rattle.std.specs.Prelude.{◌≡◌, ℕ, Bool, false, List, length, map, drop, Option, Some, None, Result, Ok, Err}
+use Rattle.std.specs.Prelude.{◌≡◌, ◌<◌, ℕ, Bool, false, List, length, map, drop, Option, Some, None, Result, Ok, Err}
 use Rattle.qasm_lex.specs.declared.Token.{Token}
 use Rattle.qasm_lex.specs.declared.fault.CircuitFault.{CircuitFault}
 use Rattle.qasm_lex.specs.declared.fault.CircuitFault.TheVariants as circuits
@@ -33,10 +33,14 @@ unless None k = Ok k
 abbrev pub tried : Lexed → Known → ℕ → Sentence → Result Known Stop
 tried x k at s = unless (first_fault (faults x k at s)) (behind x k at s)
 
+-- a statement begins at a place, and its tokens are refused
+abbrev pub Refuses : Lexed → Known → ℕ → Stop → Type 0
+Refuses x k at stop = (at < length x.tokens) × (reads one_statement (drop at (terminals x k.included)) at ≡ Err stop)
+
 -- what reading on from a place gives, with what is known there: all that the statements make known, or the first fault
 pub data Continues (x : Lexed) : Known → ℕ → Result Known Stop → Type 0 where
   ends : (k : Known) → Continues x k (length x.tokens) (Ok k)
-  stops : (k : Known) (at : ℕ) (stop : Stop) → reads one_statement (drop at (terminals x k.included)) at ≡ Err stop → Continues x k at (Err stop)
+  stops : (k : Known) (at : ℕ) (stop : Stop) → Refuses x k at stop → Continues x k at (Err stop)
   breaks : (k : Known) (at end : ℕ) (s : Sentence) (stop : Stop) → reads one_statement (drop at (terminals x k.included)) at ≡ Ok end → Spells (sentence_text s) (terminals x k.included) at end → tried x k at s ≡ Err stop → Continues x k at (Err stop)
   goes_on : (k next : Known) (at end : ℕ) (s : Sentence) (r : Result Known Stop) → reads one_statement (drop at (terminals x k.included)) at ≡ Ok end → Spells (sentence_text s) (terminals x k.included) at end → tried x k at s ≡ Ok next → Continues x next end r → Continues x k at r
 

@@ -28,7 +28,10 @@ mod trying;
 pub use follow::Stop;
 use follow::{Fault, version};
 use known::{Known, nothing_known};
-pub use laws::{law_grammar, law_read, law_stop};
+pub use laws::{
+    law_grammar, law_grammar_rows, law_name_rows, law_one_fault, law_one_tree, law_read, law_stop,
+    law_tree_or_fault,
+};
 use patch_base::Memory;
 use productions::next_statement;
 use qasm_lex::{CircuitFault, Token};

@@ -16,7 +16,7 @@ reading-init c = rw c.nothing_known-known.ensures
 pub returns-in_err-sentence : goal.returns-in_err-sentence
 returns-in_err-sentence c =
     let p = err_from_is_err_and c.from_residual-in_err-sentence.result c.from_residual-in_err-sentence.ensures.1 in
-    rw (p.1, p.2) (standing_stops c.args.source.now c.reading.found.items c.reading.known c.reading.at c.in_err-sentence.field-0.0 c.reading.invariant (rw (← c.deref-in-reading.ensures.value) (c.in_err-sentence.ensures.form done refl)))
+    rw (p.1, p.2) (standing_stops c.args.source.now c.reading.found.items c.reading.known c.reading.at c.in_err-sentence.field-0.0 c.reading.invariant (rw (← c.as_slice.ensures.value) c.reading-test.true) (rw (← c.deref-in-reading.ensures.value) (c.in_err-sentence.ensures.form done refl)))
 
 pub returns-in_err-known : goal.returns-in_err-known
 returns-in_err-known c =
