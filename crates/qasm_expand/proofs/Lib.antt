@@ -1,0 +1,11 @@
+pub mod Steps
+pub mod Calls
+pub mod Limits
+pub mod Within
+pub mod Counts
+pub mod Bounds
+pub mod Unbroken
+pub mod Growing
+pub mod Arguments
+pub mod Trees
+pub mod Placed

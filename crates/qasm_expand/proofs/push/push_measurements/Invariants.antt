@@ -1,0 +1,7 @@
+use Rattle.std.proofs.Common.{◌≡◌, ◌++◌, map}
+use Rattle.std.specs.List.{range_with_len}
+use Rattle.qasm_expand.specs.Flats.{measured}
+use Rattle.qasm_expand.proofs.push.push_measurements.Given as goal
+
+abbrev pub invariant-loop-i : goal.invariant-loop-i
+invariant-loop-i l = l.flats.items ≡ l.fn.flats.items ++ map (measured l.from l.to) (range_with_len 0 l.i)

@@ -1,0 +1,6 @@
+pub mod Flats
+pub mod Limits
+pub mod Sound
+pub mod Placed
+pub mod Costs
+pub mod Rows
