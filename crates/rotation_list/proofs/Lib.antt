@@ -1,0 +1,13 @@
+pub mod Wording
+pub mod Axes
+pub mod Ruling
+pub mod Texts
+pub mod Pulling
+pub mod Printing
+pub mod Drawing
+pub mod Formed
+pub mod Named
+pub mod Programs
+pub mod Answering
+pub mod Making
+pub mod Unique

@@ -1,0 +1,10 @@
+pub mod ListText
+pub mod Lines
+pub mod Headers
+pub mod Needs
+pub mod Pulled
+pub mod Printed
+pub mod Gates
+pub mod Items
+pub mod Texts
+pub mod Generated
