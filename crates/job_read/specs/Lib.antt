@@ -1,0 +1,5 @@
+pub mod Reading
+pub mod Stages
+pub mod Kept
+pub mod Jobs
+pub mod Faults

@@ -1,0 +1,37 @@
+//! Whole jobs read from a shelf: a circuit, a layout that is open for it, and its outcomes.
+#![tactic(auto)]
+
+mod circuit;
+mod fault;
+mod layout;
+mod limited;
+mod lists;
+mod outcomes;
+mod read;
+#[cfg(test)]
+mod tests;
+
+pub use circuit::load_circuit;
+pub use fault::JobFault;
+pub use layout::load_layout;
+pub use lists::Products;
+use outcome_table::Outcomes;
+pub use outcomes::load_outcomes;
+use patch_layout::Layout;
+pub use read::read_job;
+use source_model::Circuit;
+
+/// A job: what its three texts stand for.
+///
+/// What each job that was read keeps is `IsJob` of `specs/Kept.antt`.
+#[derive(Drop)]
+pub struct Job {
+    /// The circuit.
+    pub circuit: Circuit,
+    /// The circuit's static products.
+    pub products: Products,
+    /// The layout, which is open for the circuit.
+    pub layout: Layout,
+    /// The outcomes of the products, and the failing runs of the layout's factories.
+    pub outcomes: Outcomes,
+}
