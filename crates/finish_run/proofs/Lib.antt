@@ -1,0 +1,12 @@
+pub mod Onward
+pub mod Past
+pub mod Accepting
+pub mod Axes
+pub mod Turns
+pub mod Stocked
+pub mod Stepping
+pub mod Pending
+pub mod Planning
+pub mod Carried
+pub mod Rest
+pub mod Completing
