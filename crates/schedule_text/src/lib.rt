@@ -1,15 +1,19 @@
 //! Schedules as text: a header, a line for each entry of a history, and a line for each register's bits.
 #![tactic(auto)]
 
-ghost use Rattle.std.specs.Prelude.{◌≡◌, ◌≤◌, ◌⊎◌, All, length, OnOk, OnErr, IfOk, IfSome};
+ghost use Rattle.std.specs.Prelude.{◌≡◌, ◌≤◌, ◌⊎◌, List, length, OnOk, OnErr, IfOk, IfSome};
 ghost use Rattle.patch_base.specs.Outside.{Rose, Grew, AppendsPrefix};
-ghost use Rattle.source_model.specs.Circuits.{WellFormed, bits_in};
+ghost use Rattle.source_model.specs.declared.Given.{Given};
+ghost use Rattle.source_model.specs.Bits.{bits_after};
+ghost use Rattle.source_model.specs.Circuits.{RightKinds, WellFormed, bits_in};
 ghost use Rattle.source_model.specs.Statics.{statics};
 ghost use Rattle.board_core.specs.declared.Noted.{Noted};
 ghost use Rattle.board_core.specs.History.{entries};
+ghost use Rattle.board_core.specs.Legal.{Complete};
+ghost use Rattle.board_core.specs.Position.{past};
 ghost use Rattle.schedule_text.specs.Bits.{LeavesBits};
 ghost use Rattle.schedule_text.specs.Lines.{IsEntryLine, version_of};
-ghost use Rattle.schedule_text.specs.Text.{text_of, bits_text, two, bit_in, HasNumber, TextTellsAll};
+ghost use Rattle.schedule_text.specs.Text.{text_of, bits_text, two, bit_in, TextTellsAll};
 
 mod bits;
 mod pen;
@@ -18,7 +22,7 @@ mod read;
 mod tests;
 
 use bits::{Said, count};
-use board_core::Noted;
+use board_core::{Board, Noted, law_headline};
 use node_log::Log;
 use patch_base::{Failed, Memory, Sink, Words};
 use pen::Pen;
@@ -40,7 +44,6 @@ pub fn write_history<O: Sink>(
 ) -> Result<(), Failed>
     requires circuit { WellFormed circuit.now }
     requires bits { length bits.now ≡ bits_in circuit.now.registers }
-    requires numbers { All HasNumber history.now }
     ensures counts { O.faults out.old ≤ O.faults out.new }
     ensures all { OnOk result (Grew (O.taken out.old) (O.taken out.new) (text_of two history.now circuit.now.registers (bit_in bits.now))) }
     ensures prefix { OnErr result (AppendsPrefix (O.taken out.old) (O.taken out.new) (text_of two history.now circuit.now.registers (bit_in bits.now))) }
@@ -86,7 +89,8 @@ pub fn history_bits(
 ) -> Result<Vec<bool>, Memory>
     requires circuit { WellFormed circuit.now }
     requires products { products.now ≡ statics circuit.now.items }
-    ensures { IfOk result (λ bits. LeavesBits circuit.now (entries history.now) bits.items) }
+    ensures size { IfOk result (λ bits. length bits.items ≡ bits_in circuit.now.registers) }
+    ensures bits { IfOk result (λ bits. LeavesBits circuit.now (entries history.now) bits.items) }
 {
     law_bits();
     let said = Said::of(alloc, products.len(), history)?;
@@ -94,6 +98,45 @@ pub fn history_bits(
     let mut bits = vec![in alloc; false; size]?;
     said.write(products, &mut bits);
     Ok(bits)
+}
+
+/// The bits of the registers behind a board of the circuit's static products: where the board is complete for a table of
+/// outcomes, those of the circuit's own run with that table.
+///
+/// # Errors
+///
+/// `Memory` where memory is wanting.
+pub fn bits_of(alloc: Global, circuit: &Circuit, board: &Board) -> Result<Vec<bool>, Memory>
+    requires circuit { WellFormed circuit.now }
+    requires products { board.now.job.products ≡ statics circuit.now.items }
+    ensures size { IfOk result (λ bits. length bits.items ≡ bits_in circuit.now.registers) }
+    ensures bits { IfOk result (λ bits. (table : List Given) → RightKinds circuit.now.items table → Complete board.now.job (past board.now) table → bits.items ≡ bits_after circuit.now.registers circuit.now.items table) }
+{
+    law_headline();
+    let bits = history_bits(alloc, circuit, board.products(), board.history())?;
+    Ok(bits)
+}
+
+/// Writes a board's schedule: the text of version 2 of its history. `bits` has one truth value per bit of the registers. No
+/// memory is taken.
+///
+/// # Errors
+///
+/// `Failed` where the sink failed, which then took a prefix of the text.
+pub fn write_schedule<O: Sink>(
+    circuit: &Circuit,
+    board: &Board,
+    bits: &[bool],
+    out: &mut O,
+) -> Result<(), Failed>
+    requires circuit { WellFormed circuit.now }
+    requires bits { length bits.now ≡ bits_in circuit.now.registers }
+    ensures counts { O.faults out.old ≤ O.faults out.new }
+    ensures all { OnOk result (Grew (O.taken out.old) (O.taken out.new) (text_of two board.now.history circuit.now.registers (bit_in bits.now))) }
+    ensures prefix { OnErr result (AppendsPrefix (O.taken out.old) (O.taken out.new) (text_of two board.now.history circuit.now.registers (bit_in bits.now))) }
+    ensures failed { OnErr result (Rose (O.faults out.old) (O.faults out.new)) }
+{
+    write_history(circuit, board.history(), bits, out)
 }
 
 /// The entry that a line of a schedule names, with the number of the pass that made it, which is 0 in version 1.

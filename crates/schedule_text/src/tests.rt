@@ -1,7 +1,6 @@
 ghost use Rattle.std.specs.Prelude.{◌≡◌, true, ◌⊎◌, ◌+◌, ◌<◌, ◌≤◌, [], ◌∷◌, All, length, IfOk, OnOk};
 ghost use Rattle.source_model.specs.Circuits.{WellFormed, bits_in};
 ghost use Rattle.pauli_product.specs.declared.Letter.TheVariants.{Z};
-ghost use Rattle.schedule_text.specs.Text.{HasNumber};
 
 use crate::{history_bits, read_entry, write_bits, write_history};
 use board_core::{Entry, Noted};
@@ -41,20 +40,16 @@ fn circuit(alloc: Global, size: u32) -> Result<Circuit, Fail>
 }
 
 fn note(alloc: Global, history: &mut Log<Noted>, entry: Entry) -> Result<(), Fail>
-    requires few { length history.old < 100 }
-    requires numbers { All HasNumber history.old }
-    ensures few { OnOk result (length history.new ≡ length history.old + 1) }
-    ensures numbers { OnOk result (All HasNumber history.new) }
+    requires { length history.old < 100 }
+    ensures { OnOk result (length history.new ≡ length history.old + 1) }
 {
     history.push(Node::empty(alloc)?, Noted { by: 0, entry });
     Ok(())
 }
 
 fn steps(alloc: Global, history: &mut Log<Noted>) -> Result<(), Fail>
-    requires few { length history.old < 50 }
-    requires numbers { All HasNumber history.old }
-    ensures few { OnOk result (length history.new ≡ length history.old + 11) }
-    ensures numbers { OnOk result (All HasNumber history.new) }
+    requires { length history.old < 50 }
+    ensures { OnOk result (length history.new ≡ length history.old + 11) }
 {
     'steps: for _ in 0..11u32 {
         note(alloc, history, Entry::Step { factory: 0 })?;
@@ -81,19 +76,15 @@ fn product(
     product: u32,
     given: Given,
 ) -> Result<(), Fail>
-    requires few { length history.old < 50 }
-    requires numbers { All HasNumber history.old }
-    ensures few { OnOk result (length history.new ≡ length history.old + 3) }
-    ensures numbers { OnOk result (All HasNumber history.new) }
+    requires { length history.old < 50 }
+    ensures { OnOk result (length history.new ≡ length history.old + 3) }
 {
     note(alloc, history, claim)?;
     note(alloc, history, Entry::Deliver { product, given })?;
     note(alloc, history, Entry::Release { product })
 }
 
-fn history(alloc: Global) -> Result<Log<Noted>, Fail>
-    ensures { IfOk result (λ h. All HasNumber h) }
-{
+fn history(alloc: Global) -> Result<Log<Noted>, Fail> {
     let mut history = Log::new();
     steps(alloc, &mut history)?;
     let first = claim(alloc, 0, Product::new(alloc, false, &[Letter::Z])?, Some(0))?;
@@ -170,9 +161,7 @@ fn rewritten(alloc: Global, line: &[u8], version: u32) -> Result<MemorySink, Fai
     let circuit = circuit(alloc, 1)?;
     let mut history = Log::new();
     let mut sink = MemorySink::new(alloc, 200, 200)?;
-    if let Some(noted) = read_entry(alloc, line, version)?
-        && noted.by <= 63
-    {
+    if let Some(noted) = read_entry(alloc, line, version)? {
         history.push(Node::empty(alloc)?, noted);
         write_history(&circuit, &history, &[true], &mut sink)?;
     }

@@ -13,8 +13,18 @@ use Rattle.schedule_text.proofs.LastWritten.{behind_agrees, are_values, take_fir
 use Rattle.schedule_text.proofs.OneRun.{run_agrees}
 use Rattle.schedule_text.proofs.history_bits.Goals as goal
 
-pub returns : goal.returns
-returns c = λ grid fails table right is.
+pub returns-clause-size : goal.returns-clause-size
+returns-clause-size c =
+    let size = c.count-size.result in
+    let bits = c.write.new.bits in
+    let cleared : c.deref_mut.result.now ≡ replicate size false = c.deref_mut.ensures.value ∙ c.in_ok-bits.ensures.items_if_clones_equal (λ y e. e) in
+    let count : length bits ≡ size = c.write.ensures.count ∙ (ap length cleared ∙ length-replicate size false) in
+    ap (λ m. length (take m (bits ++ drop (length bits) c.in_ok-bits.bits.items))) (c.in_ok-bits.ensures.len ∙ sym count)
+    ∙ (ap length (take_first bits (drop (length bits) c.in_ok-bits.bits.items))
+    ∙ (count ∙ (c.count-size.ensures.value ∙ ap bits_in c.as_slice.ensures)))
+
+pub returns-clause-bits : goal.returns-clause-bits
+returns-clause-bits c = λ grid fails table right is.
     let items = c.args.circuit.now.items in
     let size = c.count-size.result in
     let bits = c.write.new.bits in
