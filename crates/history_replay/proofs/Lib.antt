@@ -1,0 +1,10 @@
+pub mod Splitting
+pub mod Reading
+pub mod Ending
+pub mod Outcomes
+pub mod Feeds
+pub mod Digits
+pub mod Joined
+pub mod Closing
+pub mod Verdicts
+pub mod Replayed

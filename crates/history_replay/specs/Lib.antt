@@ -1,0 +1,4 @@
+pub mod Replay
+pub mod Lines
+pub mod Joining
+pub mod Answers
