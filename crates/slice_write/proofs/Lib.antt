@@ -20,4 +20,3 @@ pub mod Paging
 pub mod Words
 pub mod Whole
 pub mod Parts
-pub mod OnePort

@@ -6,6 +6,7 @@ use Rattle.magic_pool.specs.declared.Fail.{Fail}
 use Rattle.board_core.specs.declared.Noted.{Noted}
 use Rattle.board_core.specs.History.{entries}
 use Rattle.board_core.specs.Legal.{Legal}
+use Rattle.board_core.specs.Limits.{AreFactories}
 use Rattle.board_core.specs.Position.{Position, IsLegal}
 use Rattle.slice_write.specs.Tables.{job}
 
@@ -17,3 +18,7 @@ parts_legal b products grid fails history legal p g f h =
     let F : List Fail → Type 0 = λ x. Legal (job b.job.products b.job.grid x) (entries history) in
     let H : List Noted → Type 0 = λ x. Legal b.job (entries x) in
     subst P (sym p) (subst G (sym g) (subst F (sym f) (subst H (sym h) legal.legal)))
+
+-- a board's factories have numbers below 16
+pub parts_factories : (b : Position) (grid : Grid) → IsLegal b → grid ≡ b.job.grid → AreFactories grid
+parts_factories b grid legal g = subst AreFactories (sym g) legal.factories

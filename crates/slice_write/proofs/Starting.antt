@@ -16,7 +16,7 @@ use Rattle.board_core.specs.declared.Entry.{Entry}
 use Rattle.board_core.specs.declared.Entry.TheVariants.{Claim, Deliver, Release, Step, Settle}
 use Rattle.board_core.specs.History.{History, entries, steps, taken_states, is_claim_of}
 use Rattle.board_core.specs.Legal.{Job, Legal, Allowed, TakesState}
-use Rattle.board_core.specs.Limits.{WithinLimits}
+use Rattle.board_core.specs.Limits.{AreFactories}
 use Rattle.slice_write.specs.declared.placed.Placed.{Placed}
 use Rattle.slice_write.specs.declared.factory.Factory.{Factory}
 use Rattle.slice_write.specs.declared.ledger.Ledger.{Ledger}
@@ -91,15 +91,15 @@ state_known j h (kind.Measure bit) through state (port, is) =
     subst P (sym is) tt
 state_known j h (kind.Settle first size value) through state takes = absurd takes
 
-fits_allowed : (j : Job) (h : History) (e : Entry) → WithinLimits j → Allowed j h e → Fits j (sliced j h) e
-fits_allowed j h (Claim p axis through state cells) limits allowed =
+fits_allowed : (j : Job) (h : History) (e : Entry) → AreFactories j.grid → Allowed j h e → Fits j (sliced j h) e
+fits_allowed j h (Claim p axis through state cells) factories allowed =
     let (s, at, takes) = allowed.product in
     let P : History → Type 0 = λ k. IfSome state (λ t. t < length (made_in j.fails k)) in
     (slice_get_within j.products p s at, λ k d low. slice_get_within j.grid.sites (get_or cells k d) _ (allowed.fits.ancilla k d low), subst P (sym (sliced_entries j h)) (state_known j h s.kind through state takes))
-fits_allowed j h (Deliver p g) limits allowed = tt
-fits_allowed j h (Release p) limits allowed = tt
-fits_allowed j h (Step f) limits (store, has, room) = (limits.factories f store has).0
-fits_allowed j h (Settle p flip) limits (undone, ready, (s, first, size, value, at, is, flips)) = slice_get_within j.products p s at
+fits_allowed j h (Deliver p g) factories allowed = tt
+fits_allowed j h (Release p) factories allowed = tt
+fits_allowed j h (Step f) factories (store, has, room) = (factories f store has).0
+fits_allowed j h (Settle p flip) factories (undone, ready, (s, first, size, value, at, is, flips)) = slice_get_within j.products p s at
 
 entries_at : (seen rest : List Noted) (x : Noted) → entries (seen ++ x ∷ rest) ≡ entries seen ++ x.entry ∷ entries rest
 entries_at seen rest x = map-append (λ (n : Noted). n.entry) seen (x ∷ rest)
@@ -113,24 +113,24 @@ allowed_at j h seen rest e legal is =
     subst P (ap (take (length seen)) is ∙ take_at seen (e ∷ rest) (length seen) refl) (legal (length seen) e (ap (λ k. slice_get k (length seen)) is ∙ get_at seen rest e (length seen) refl))
 
 -- each entry of a legal history may be added
-pub awaits_next : (products : List Static) (grid : Grid) (fails : List Fail) (history seen rest : List Noted) (x : Noted) (t : Ledger) → WithinLimits (job products grid fails) → Legal (job products grid fails) (entries history)
+pub awaits_next : (products : List Static) (grid : Grid) (fails : List Fail) (history seen rest : List Noted) (x : Noted) (t : Ledger) → AreFactories grid → Legal (job products grid fails) (entries history)
     → seen ++ x ∷ rest ≡ history → length history < 2 ^ 32 → Keeps (job products grid fails) (sliced (job products grid fails) (entries seen)) t → Awaits products grid t x.entry
-awaits_next products grid fails history seen rest x t limits legal whole short keeps =
+awaits_next products grid fails history seen rest x t factories legal whole short keeps =
     let j = job products grid fails in
     let is : entries history ≡ entries seen ++ x.entry ∷ entries rest = ap entries (sym whole) ∙ entries_at seen rest x in (
       fails,
       sliced j (entries seen),
       keeps,
-      fits_allowed j (entries seen) x.entry limits (allowed_at j (entries history) (entries seen) (entries rest) x.entry legal is),
+      fits_allowed j (entries seen) x.entry factories (allowed_at j (entries history) (entries seen) (entries rest) x.entry legal is),
       omega (arith, ap length whole, length-append seen (x ∷ rest), short, ap length (sliced_entries j (entries seen)), length-map (sliced j (entries seen)) (λ (e : Sliced). e.0), length-map seen (λ (n : Noted). n.entry)),
     )
 
-pub fits_next : (products : List Static) (grid : Grid) (fails : List Fail) (history seen rest : List Noted) (x : Noted) → WithinLimits (job products grid fails) → Legal (job products grid fails) (entries history)
+pub fits_next : (products : List Static) (grid : Grid) (fails : List Fail) (history seen rest : List Noted) (x : Noted) → AreFactories grid → Legal (job products grid fails) (entries history)
     → seen ++ x ∷ rest ≡ history → Fits (job products grid fails) (sliced (job products grid fails) (entries seen)) x.entry
-fits_next products grid fails history seen rest x limits legal whole =
+fits_next products grid fails history seen rest x factories legal whole =
     let j = job products grid fails in
     let is : entries history ≡ entries seen ++ x.entry ∷ entries rest = ap entries (sym whole) ∙ entries_at seen rest x in
-    fits_allowed j (entries seen) x.entry limits (allowed_at j (entries history) (entries seen) (entries rest) x.entry legal is)
+    fits_allowed j (entries seen) x.entry factories (allowed_at j (entries history) (entries seen) (entries rest) x.entry legal is)
 
 pub keeps_next : (j : Job) (seen : List Noted) (x : Noted) (n : ℕ) (t : Ledger) → IsNext j (sliced j (entries seen)) x.entry n t → Keeps j (sliced j (entries (seen ++ x ∷ []))) t
 keeps_next j seen x n t next =

@@ -8,7 +8,7 @@ use Rattle.board_core.specs.declared.Entry.{Entry}
 use Rattle.board_core.specs.declared.Entry.TheVariants.{Claim, Deliver, Release, Step, Settle}
 use Rattle.board_core.specs.History.{History, entries}
 use Rattle.board_core.specs.Legal.{Job, Legal, Allowed}
-use Rattle.board_core.specs.Limits.{WithinLimits}
+use Rattle.board_core.specs.Limits.{WithinLimits, AreFactories}
 use Rattle.slice_write.specs.declared.page.Page.{Page}
 use Rattle.slice_write.specs.Slices.{Sliced, greatest, sliced, slices_of, entries_of}
 use Rattle.slice_write.specs.Pictures.{slices_text}
@@ -26,18 +26,18 @@ le_greatest (n ∷ ns) (suc k) d low = omega (arith, le_greatest ns k d (omega a
 pub within_greatest : (ns : List ℕ) (last : ℕ) → last ≡ greatest ns → All (λ n. n ≤ last) ns
 within_greatest ns last is k d low = omega (arith, le_greatest ns k d low, is)
 
-room_allowed : (j : Job) (h : History) (e : Entry) → WithinLimits j → Allowed j h e → HasRoom j.grid e
-room_allowed j h (Claim p axis through state cells) limits allowed =
+room_allowed : (j : Job) (h : History) (e : Entry) → WithinLimits j → AreFactories j.grid → Allowed j h e → HasRoom j.grid e
+room_allowed j h (Claim p axis through state cells) limits factories allowed =
     let (s, at, takes) = allowed.product in
     (omega (arith, slice_get_within j.products p s at, limits.few_products), allowed.fits.ancilla)
-room_allowed j h (Deliver p g) limits allowed = tt
-room_allowed j h (Release p) limits allowed = tt
-room_allowed j h (Step f) limits (store, has, room) = (limits.factories f store has).0
-room_allowed j h (Settle p flip) limits allowed = tt
+room_allowed j h (Deliver p g) limits factories allowed = tt
+room_allowed j h (Release p) limits factories allowed = tt
+room_allowed j h (Step f) limits factories (store, has, room) = (factories f store has).0
+room_allowed j h (Settle p flip) limits factories allowed = tt
 
 -- each entry of a legal history has room
-pub all_have_room : (j : Job) (h : History) → WithinLimits j → Legal j h → All (HasRoom j.grid) h
-all_have_room j h limits legal n d low = room_allowed j (take n h) (get_or h n d) limits (legal n (get_or h n d) (slice_get-get_or h n d low))
+pub all_have_room : (j : Job) (h : History) → WithinLimits j → AreFactories j.grid → Legal j h → All (HasRoom j.grid) h
+all_have_room j h limits factories legal n d low = room_allowed j (take n h) (get_or h n d) limits factories (legal n (get_or h n d) (slice_get-get_or h n d low))
 
 pub as_many : (j : Job) (history : List Noted) (slices : List ℕ) → slices ≡ slices_of j (entries history) → length slices ≡ length history
 as_many j history slices is = omega (arith, ap length is, length-map (sliced j (entries history)) (λ (e : Sliced). e.1), ap length (sliced_entries j (entries history)), length-map (sliced j (entries history)) (λ (e : Sliced). e.0), length-map history (λ (y : Noted). y.entry))

@@ -4,7 +4,7 @@ ghost use Rattle.std.specs.Prelude.{◌≡◌, ◌≤◌, IfOk, OnOk};
 ghost use Rattle.patch_base.specs.Outside.{Rose, Grew, AppendsPrefix};
 ghost use Rattle.board_core.specs.History.{entries};
 ghost use Rattle.board_core.specs.Legal.{Job, Legal};
-ghost use Rattle.board_core.specs.Limits.{WithinLimits};
+ghost use Rattle.board_core.specs.Limits.{WithinLimits, AreFactories};
 ghost use Rattle.slice_write.specs.Slices.{sliced, slices_of};
 ghost use Rattle.slice_write.specs.Pictures.{slices_text};
 
@@ -29,6 +29,7 @@ pub fn slice_history(
     history: &Log<Noted>,
 ) -> Result<Vec<u32>, Memory>
     requires limits { WithinLimits (record { products = products.now; grid = layout.now; fails = fails.now }) }
+    requires factories { AreFactories layout.now }
     requires legal { Legal (record { products = products.now; grid = layout.now; fails = fails.now }) (entries history.now) }
     ensures { IfOk result (λ v. v.items ≡ slices_of (record { products = products.now; grid = layout.now; fails = fails.now }) (entries history.now)) }
 {
@@ -51,6 +52,7 @@ pub fn write_history_slices<O: Sink>(
     out: &mut O,
 ) -> Result<(), SliceFault>
     requires limits { WithinLimits (record { products = products.now; grid = layout.now; fails = fails.now }) }
+    requires factories { AreFactories layout.now }
     requires legal { Legal (record { products = products.now; grid = layout.now; fails = fails.now }) (entries history.now) }
     requires slices { slices.now ≡ slices_of (record { products = products.now; grid = layout.now; fails = fails.now }) (entries history.now) }
     ensures counts { O.faults out.old ≤ O.faults out.new }

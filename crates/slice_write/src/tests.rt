@@ -1,9 +1,9 @@
-ghost use Rattle.std.specs.Prelude.{◌≡◌, IfOk};
-ghost use Rattle.patch_layout.specs.Row.{row_grid};
+ghost use Rattle.std.specs.Prelude.{true, [], ◌∷◌, IfOk};
+ghost use Rattle.patch_layout.specs.Grid.{Open};
+ghost use Rattle.patch_layout.specs.Row.{wanted};
 
 use crate::{SliceFault, slices, write_picture, write_slices};
-use board_core::{Board, order_of};
-use magic_pool::{Maker, Pool};
+use board_core::{Board, order_of, pool_of};
 use node_log::Node;
 use patch_base::{Failed, MemorySink, Need, Used};
 use patch_layout::Layout;
@@ -13,7 +13,7 @@ use std::test::Fail;
 
 /// One patch and one port in two rows.
 fn layout(alloc: Global) -> Result<Layout, Fail>
-    ensures { IfOk result (λ l. l ≡ row_grid 1) }
+    ensures { IfOk result (λ l. Open l (wanted (true ∷ []) true)) }
 {
     let need = Need {
         qubits: 1,
@@ -28,13 +28,11 @@ fn layout(alloc: Global) -> Result<Layout, Fail>
 
 /// A board without products, behind one step of the factory.
 fn board(rt: &impl Abort, alloc: Global) -> Result<Board, Fail> {
-    let order = order_of(alloc, &[])?;
-    let makers = [Maker {
-        factory: 0,
-        store: 1,
-    }];
-    let pool = Pool::new(alloc, &makers, &[])?;
-    let mut board = Board::new(alloc, layout(alloc)?, order, Vec::new(alloc), pool)?;
+    let layout = layout(alloc)?;
+    let products = Vec::new(alloc);
+    let order = order_of(alloc, &products)?;
+    let pool = pool_of(alloc, &layout, &[])?;
+    let mut board = Board::new(alloc, layout, order, products, pool)?;
     assert!(rt; board.step(0, 0, Node::empty(alloc)?).is_ok());
     Ok(board)
 }

@@ -18,7 +18,7 @@ slice-requires c =
     let short : length c.args.history.now < 2 ^ 32 = omega (arith, c.length.ensures, c.length.type_inv) in
     record {
       qubits = (c.requires.limits.qubits, c.requires.limits.axes_fit);
-      awaits = awaits_next c.args.products.now c.args.layout.now c.args.fails.now c.args.history.now seen c.next.new.self c.in-Some.noted.now c.loop-noted.ledger c.requires.limits c.requires.legal whole short keeps;
+      awaits = awaits_next c.args.products.now c.args.layout.now c.args.fails.now c.args.history.now seen c.next.new.self c.in-Some.noted.now c.loop-noted.ledger c.requires.factories c.requires.legal whole short keeps;
     }
 
 pub loop-noted-preserved : goal.loop-noted-preserved
@@ -26,7 +26,7 @@ loop-noted-preserved c =
     let j = job c.args.products.now c.args.layout.now c.args.fails.now in
     let (seen, all, keeps, so_far) = c.loop-noted.invariant in
     let whole : seen ++ c.in-Some.noted.now ∷ c.next.new.self ≡ c.args.history.now = ap (λ (l : List Noted). seen ++ l) (sym c.in-Some.ensures.steps) ∙ all in
-    let next = c.in_ok-slice.ensures c.args.fails.now (sliced j (entries seen)) keeps (fits_next c.args.products.now c.args.layout.now c.args.fails.now c.args.history.now seen c.next.new.self c.in-Some.noted.now c.requires.limits c.requires.legal whole) in
+    let next = c.in_ok-slice.ensures c.args.fails.now (sliced j (entries seen)) keeps (fits_next c.args.products.now c.args.layout.now c.args.fails.now c.args.history.now seen c.next.new.self c.in-Some.noted.now c.requires.factories c.requires.legal whole) in
     (seen ++ c.in-Some.noted.now ∷ [], append_assoc seen (c.in-Some.noted.now ∷ []) c.next.new.self ∙ whole, keeps_next j seen c.in-Some.noted.now _ c.slice.new.self next, slices_next j seen c.in-Some.noted.now _ c.slice.new.self c.loop-noted.slices.items c.push.new.self.items next so_far c.in_ok-push.ensures.items)
 
 pub returns : goal.returns

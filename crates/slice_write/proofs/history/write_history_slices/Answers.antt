@@ -13,10 +13,10 @@ pub pages-requires-clause-within : goal.pages-requires-clause-within
 pages-requires-clause-within g c = within_greatest c.args.slices.now c.greatest-last.result c.greatest-last.ensures
 
 pub pages-requires-clause-room : goal.pages-requires-clause-room
-pages-requires-clause-room g c = all_have_room (job c.args.products.now c.args.layout.now c.args.fails.now) (entries c.args.history.now) c.requires.limits c.requires.legal
+pages-requires-clause-room g c = all_have_room (job c.args.products.now c.args.layout.now c.args.fails.now) (entries c.args.history.now) c.requires.limits c.requires.factories c.requires.legal
 
 pub pages-requires-clause-factories : goal.pages-requires-clause-factories
-pages-requires-clause-factories g c = λ f store has. (c.requires.limits.factories f store has).0
+pages-requires-clause-factories g c = λ f store has. (c.requires.factories f store has).0
 
 pub returns-clause-all : goal.returns-clause-all
 returns-clause-all g c =
