@@ -1,19 +1,10 @@
-pub mod Parts
-pub mod Registers
-pub mod Lists
-pub mod Reading
-pub mod Outcomes
-pub mod Useds
-pub mod SerialPlaces
-pub mod SerialPool
-pub mod SerialSeen
-pub mod SerialAllowed
-pub mod SerialRun
-pub mod Four
-pub mod Sinks
-pub mod Told
-pub mod Stages
-pub mod RowServing
-pub mod SameBits
-pub mod Scheduled
-pub mod FewOutcomes
+mod SameBits
+mod Scheduled
+mod Claims
+mod Brought
+mod Boards
+mod Told
+mod Sinks
+mod Ending
+mod Replaying
+mod Accepting

@@ -1,122 +1,164 @@
--- How a call of `serial` ends, why, and what it leaves written.
-use Rattle.std.specs.Prelude.{◌≡◌, ◌⊎◌, ℕ, List, [], ◌++◌, codes, decimal, Option, IfSome}
-use Rattle.patch_base.specs.Outside.{Rose, Grew, AppendsPrefix}
+-- How each command ends: what it writes, or why it writes nothing.
+use Rattle.std.specs.Prelude.{◌≡◌, ◌⊎◌, ℕ, ◌≤◌, List, codes, Result, Ok, Err}
 use Rattle.source_model.specs.declared.Circuit.{Circuit}
-use Rattle.source_model.specs.declared.Given.{Given}
-use Rattle.tool_top.specs.declared.end.End.{End}
-use Rattle.tool_top.specs.declared.end.End.TheVariants.{Done, CircuitUnread, CircuitRefused, PatchMissing, OutcomesUnread, OutcomesRefused, Unwritten, NoMemory}
-use Rattle.tool_top.specs.Command.{IsSerial}
-use Rattle.tool_top.specs.ListText.{IsList}
-use Rattle.tool_top.specs.OutcomeList.{IsTable}
-use Rattle.tool_top.specs.Past.{RowServes, IsPastRow}
-use Rattle.tool_top.specs.Written.{IsSerialSchedule}
+use Rattle.patch_layout.specs.Grid.{Grid}
+use Rattle.board_core.specs.declared.Noted.{Noted}
+use Rattle.schedule_text.specs.Text.{Version}
+use Rattle.job_read.specs.declared.Job.{Job}
+use Rattle.job_read.specs.declared.fault.JobFault.{JobFault}
+use Rattle.job_read.specs.Reading.{Seen, Failed, IsNamed, IsTold}
+use Rattle.job_read.specs.Stages.{CircuitStands, LayoutStands}
+use Rattle.job_read.specs.Jobs as job_faults
+use Rattle.job_read.specs.Jobs.{StandsForJob, Because, CircuitStops, LayoutStops, TellsAll}
+use Rattle.tool_words.specs.Commands.{Tool, serial, lower, layout, verify, slices, migrate, layers, least, tool_words}
+use Rattle.tool_top.specs.declared.fault.Fault.{Fault}
+use Rattle.tool_top.specs.declared.fault.Fault.TheVariants as fault
+use Rattle.tool_top.specs.Outside.{Shelved, Writing, seen_on, job_on, Untouched, Took, TookPart, Said}
+use Rattle.tool_top.specs.Serial.{IsSerialSchedule}
+use Rattle.tool_top.specs.Lower.{lowered, shown}
+use Rattle.tool_top.specs.Schedules.{ScheduleStands, ScheduleLong, ScheduleBad, verdict, slices_shown, migrated}
+use Rattle.tool_top.specs.Faults.{status_of, fault_line}
 
--- the shelf as a call sees it: the bytes that it tells by name, and its counts of faults before and after
-pub record Reading : Type 0 where
-  pub tells : List ℕ → Option (List ℕ)
-  pub before : List ℕ → ℕ
-  pub after : List ℕ → ℕ
+-- ---- what is read
 
--- a sink before and after a call: the bytes that it took, where it tells them, and its count of faults
-pub record Writing : Type 0 where
-  pub taken_before : Option (List ℕ)
-  pub taken_after : Option (List ℕ)
-  pub before : ℕ
-  pub after : ℕ
+-- the circuit is accepted, and of it this holds
+abbrev pub OnCircuit : Shelved → List ℕ → (Circuit → Type 0) → Type 0
+OnCircuit r c P = (circuit : Circuit) × CircuitStands (seen_on r c) circuit × P circuit
 
-abbrev pub reading : (List ℕ → Option (List ℕ)) → (List ℕ → ℕ) → (List ℕ → ℕ) → Reading
-reading tells before after = record { tells = tells; before = before; after = after }
+-- the circuit and the layout are accepted, and of the layout this holds
+abbrev pub OnLayout : Shelved → List ℕ → List ℕ → (Grid → Type 0) → Type 0
+OnLayout r c l P = OnCircuit r c (λ circuit. (grid : Grid) × LayoutStands l (seen_on r l) circuit grid × P grid)
 
-abbrev pub writing : Option (List ℕ) → Option (List ℕ) → ℕ → ℕ → Writing
-writing taken_before taken_after before after = record { taken_before = taken_before; taken_after = taken_after; before = before; after = after }
+-- the job is accepted, and of it this holds
+abbrev pub OnJob : Shelved → List ℕ → List ℕ → List ℕ → (Job → Type 0) → Type 0
+OnJob r c l o P = (job : Job) × StandsForJob (job_on r c l o) job × P job
 
--- a fault of this name was counted in the call
-abbrev pub Unread : Reading → List ℕ → Type 0
-Unread r name = Rose (r.before name) (r.after name)
+-- the job and the schedule are accepted, and of them this holds
+abbrev pub OnSchedule : Shelved → List ℕ → List ℕ → List ℕ → List ℕ → (Job → List Noted → Type 0) → Type 0
+OnSchedule r c l o s P = OnJob r c l o (λ job. (v : Version) × (h : List Noted) × ScheduleStands (seen_on r s) job v h × P job h)
 
-abbrev pub Untouched : Writing → Type 0
-Untouched w = w.taken_after ≡ w.taken_before
+-- ---- what is written
 
--- the text was taken
-abbrev pub Took : Writing → List ℕ → Type 0
-Took w text = Grew w.taken_before w.taken_after text
+-- the text is what the command writes
+abbrev pub Outputs : Shelved → Tool → List ℕ → Type 0
+Outputs r (serial c l o) text = OnJob r c l o (λ job. IsSerialSchedule job text)
+Outputs r (lower c) text = OnCircuit r c (λ circuit. text ≡ lowered circuit)
+Outputs r (layout c l) text = OnLayout r c l (λ grid. text ≡ shown grid)
+Outputs r (verify c l o s) text = OnSchedule r c l o s (λ job h. text ≡ verdict)
+Outputs r (slices c l o s) text = OnSchedule r c l o s (λ job h. text ≡ slices_shown job h)
+Outputs r (migrate c l o s) text = OnSchedule r c l o s (λ job h. text ≡ migrated job h)
+Outputs r (layers c) text = ⊥
+Outputs r (least c l o) text = ⊥
 
--- a fault was counted, and a part of the text from its start was taken
-abbrev pub TookPart : Writing → List ℕ → Type 0
-TookPart w text = Rose w.before w.after × AppendsPrefix w.taken_before w.taken_after text
+-- ---- why nothing is written
 
--- an accepted circuit and table are carried out, and the schedule is written
-abbrev pub Writes : Writing → Circuit → List Given → End → Type 0
-Writes w circuit table Done = (text : List ℕ) × IsSerialSchedule circuit table text × Took w text
-Writes w circuit table Unwritten = (text : List ℕ) × IsSerialSchedule circuit table text × TookPart w text
-Writes w circuit table NoMemory = Untouched w
-Writes w circuit table _ = ⊥
+-- the circuit, the layout or the outcomes can't be read, or are refused: the first one in this order
+abbrev pub StopsAtJob : Shelved → Tool → JobFault → Type 0
+StopsAtJob r (serial c l o) f = Because (job_on r c l o) f
+StopsAtJob r (lower c) f = CircuitStops (seen_on r c) f
+StopsAtJob r (layout c l) f = CircuitStops (seen_on r c) f ⊎ OnCircuit r c (λ circuit. LayoutStops l (seen_on r l) circuit f)
+StopsAtJob r (verify c l o s) f = Because (job_on r c l o) f
+StopsAtJob r (slices c l o s) f = Because (job_on r c l o) f
+StopsAtJob r (migrate c l o s) f = Because (job_on r c l o) f
+StopsAtJob r (layers c) f = ⊥
+StopsAtJob r (least c l o) f = ⊥
 
--- behind an accepted circuit and layout the outcomes are read and accepted
-abbrev pub ReadsTable : Reading → Writing → List ℕ → Circuit → End → Type 0
-ReadsTable r w outcomes circuit OutcomesUnread = Unread r outcomes × Untouched w
-ReadsTable r w outcomes circuit OutcomesRefused =
-    IfSome (r.tells outcomes) (λ text. (table : List Given) → IsTable text circuit.items table → ⊥) × Untouched w
-ReadsTable r w outcomes circuit NoMemory = Untouched w
-ReadsTable r w outcomes circuit end =
-    (table : List Given) × IfSome (r.tells outcomes) (λ text. IsTable text circuit.items table) × Writes w circuit table end
+-- the job is accepted, and of the schedule's text this holds
+abbrev pub StopsAtSchedule : Shelved → Tool → (Seen → Job → Type 0) → Type 0
+StopsAtSchedule r (serial c l o) P = ⊥
+StopsAtSchedule r (lower c) P = ⊥
+StopsAtSchedule r (layout c l) P = ⊥
+StopsAtSchedule r (verify c l o s) P = OnJob r c l o (P (seen_on r s))
+StopsAtSchedule r (slices c l o s) P = OnJob r c l o (P (seen_on r s))
+StopsAtSchedule r (migrate c l o s) P = OnJob r c l o (P (seen_on r s))
+StopsAtSchedule r (layers c) P = ⊥
+StopsAtSchedule r (least c l o) P = ⊥
 
--- behind an accepted circuit its row layout is made
-abbrev pub LaysOut : Reading → Writing → List ℕ → Circuit → End → Type 0
-LaysOut r w outcomes circuit (PatchMissing q) = IsPastRow circuit q × Untouched w
-LaysOut r w outcomes circuit NoMemory = Untouched w
-LaysOut r w outcomes circuit end = RowServes circuit × ReadsTable r w outcomes circuit end
+-- the cause of each fault that comes before all writing; want of memory has none
+abbrev pub Stops : Shelved → Tool → Fault → Type 0
+Stops r t (fault.Job f) = StopsAtJob r t f
+Stops r t fault.ScheduleUnread = StopsAtSchedule r t (λ s job. Failed s)
+Stops r t fault.ScheduleTooLong = StopsAtSchedule r t (λ s job. ScheduleLong s)
+Stops r t (fault.ScheduleIllegal line) = StopsAtSchedule r t (λ s job. ScheduleBad s job line)
+Stops r t fault.Unwritten = ⊥
+Stops r t fault.Memory = Unit {0}
 
--- the cause of each end, and what the output took: the circuit is read and accepted, then its layout, then the outcomes, and then the schedule is written
-abbrev pub Because : Reading → Writing → List ℕ → List ℕ → End → Type 0
-Because r w circuits outcomes CircuitUnread = Unread r circuits × Untouched w
-Because r w circuits outcomes CircuitRefused = IfSome (r.tells circuits) (λ text. (circuit : Circuit) → IsList text circuit → ⊥) × Untouched w
-Because r w circuits outcomes NoMemory = Untouched w
-Because r w circuits outcomes end =
-    (circuit : Circuit) × IfSome (r.tells circuits) (λ text. IsList text circuit) × LaysOut r w outcomes circuit end
+-- ---- accepted texts
 
-abbrev pub status_of : End → ℕ
-status_of Done = 0
-status_of CircuitUnread = 7
-status_of CircuitRefused = 3
-status_of (PatchMissing q) = 4
-status_of OutcomesUnread = 7
-status_of OutcomesRefused = 5
-status_of Unwritten = 8
-status_of NoMemory = 9
+-- the job's texts and the schedule's are told, and accepted
+abbrev pub AcceptsSchedule : Shelved → List ℕ → List ℕ → List ℕ → List ℕ → Type 0
+AcceptsSchedule r c l o s =
+    (job : Job) × (v : Version) × (h : List Noted) × TellsAll (job_on r c l o) × StandsForJob (job_on r c l o) job × IsTold (seen_on r s) × ScheduleStands (seen_on r s) job v h
 
--- the line on `err`, and no line where all was done
-abbrev pub fault_line : List ℕ → List ℕ → End → List ℕ
-fault_line circuits outcomes Done = []
-fault_line circuits outcomes CircuitUnread = codes "read " ++ circuits ++ codes "\n"
-fault_line circuits outcomes CircuitRefused = codes "circuit\n"
-fault_line circuits outcomes (PatchMissing q) = codes "layout PatchMissing " ++ decimal q ++ codes "\n"
-fault_line circuits outcomes OutcomesUnread = codes "read " ++ outcomes ++ codes "\n"
-fault_line circuits outcomes OutcomesRefused = codes "outcomes\n"
-fault_line circuits outcomes Unwritten = codes "write\n"
-fault_line circuits outcomes NoMemory = codes "memory\n"
+-- all texts that the command reads are told, and accepted
+abbrev pub Accepts : Shelved → Tool → Type 0
+Accepts r (serial c l o) = (job : Job) × TellsAll (job_on r c l o) × StandsForJob (job_on r c l o) job
+Accepts r (lower c) = IsTold (seen_on r c) × OnCircuit r c (λ circuit. Unit {0})
+Accepts r (layout c l) = IsTold (seen_on r c) × (IsNamed l → IsTold (seen_on r l)) × OnLayout r c l (λ grid. Unit {0})
+Accepts r (verify c l o s) = AcceptsSchedule r c l o s
+Accepts r (slices c l o s) = AcceptsSchedule r c l o s
+Accepts r (migrate c l o s) = AcceptsSchedule r c l o s
+Accepts r (layers c) = ⊥
+Accepts r (least c l o) = ⊥
 
--- the line was taken, whole unless a fault was counted
-abbrev pub Said : Writing → List ℕ → Type 0
-Said e line = Took e line ⊎ TookPart e line
+-- the shelf or the output failed, or memory is wanting
+abbrev pub IsOutside : Fault → Type 0
+IsOutside (fault.Job f) = job_faults.IsOutside f
+IsOutside fault.ScheduleUnread = Unit {0}
+IsOutside fault.ScheduleTooLong = ⊥
+IsOutside (fault.ScheduleIllegal line) = ⊥
+IsOutside fault.Unwritten = Unit {0}
+IsOutside fault.Memory = Unit {0}
 
--- the words aren't those of a command: status 2, and nothing is read or written
+-- all was done, or the outside is the cause that it wasn't
+abbrev pub IsDone : Result (Unit {0}) Fault → Type 0
+IsDone (Ok done) = Unit {0}
+IsDone (Err f) = IsOutside f
+
+-- 0, or a status that the outside is the cause of: 7, 8 or 9
+abbrev pub IsDoneStatus : ℕ → Type 0
+IsDoneStatus status = (status ≡ 0) ⊎ (7 ≤ status)
+
+-- ---- how a command ends
+
+-- the output took the whole text, or a first part of it and failed, or nothing
+abbrev pub Ends : Shelved → Writing → Tool → Result (Unit {0}) Fault → Type 0
+Ends r w t (Ok done) = (text : List ℕ) × Outputs r t text × Took w text
+Ends r w t (Err fault.Unwritten) = (text : List ℕ) × Outputs r t text × TookPart w text
+Ends r w t (Err f) = Stops r t f × Untouched w
+
+abbrev pub status_after : Result (Unit {0}) Fault → ℕ
+status_after (Ok done) = 0
+status_after (Err f) = status_of f
+
+-- the line on `err`, and nothing where all was done
+abbrev pub SaysWhy : Writing → Tool → Result (Unit {0}) Fault → Type 0
+SaysWhy e t (Ok done) = Untouched e
+SaysWhy e t (Err f) = Said e (fault_line t f)
+
+-- the commands that are built
+abbrev pub IsBuilt : Tool → Type 0
+IsBuilt (layers c) = ⊥
+IsBuilt (least c l o) = ⊥
+IsBuilt _ = Unit {0}
+
+-- the words aren't those of a command: status 2, and nothing is written but the line
 pub record RefusesWords (words : List (List ℕ)) (w e : Writing) (status : ℕ) : Type 0 where
-  pub unlisted : (circuits outcomes : List ℕ) → IsSerial words circuits outcomes → ⊥
+  pub unlisted : (t : Tool) → IsBuilt t → words ≡ tool_words t → ⊥
   pub ended : status ≡ 2
   pub silent : Untouched w
   pub said : Said e (codes "words\n")
 
--- a command that was carried out as far as its end
-pub record Ends (words : List (List ℕ)) (r : Reading) (w e : Writing) (status : ℕ) : Type 0 where
-  pub circuits : List ℕ
-  pub outcomes : List ℕ
-  pub listed : IsSerial words circuits outcomes
-  pub end : End
-  pub cause : Because r w circuits outcomes end
-  pub ended : status ≡ status_of end
-  pub said : Said e (fault_line circuits outcomes end)
+-- the words are those of a command, which was carried out as far as its end
+pub record CarriesOut (words : List (List ℕ)) (r : Shelved) (w e : Writing) (status : ℕ) : Type 0 where
+  pub tool : Tool
+  pub built : IsBuilt tool
+  pub listed : words ≡ tool_words tool
+  pub end : Result (Unit {0}) Fault
+  pub ends : Ends r w tool end
+  pub ended : status ≡ status_after end
+  pub said : SaysWhy e tool end
 
--- the words were carried out: the output took a schedule of the circuit and the table that the two texts stand for
-abbrev pub CarriesOut : List (List ℕ) → Reading → Writing → Type 0
-CarriesOut words r w = (circuits : List ℕ) × (outcomes : List ℕ) × IsSerial words circuits outcomes × Because r w circuits outcomes Done
+-- the words are those of a command, and the output took what it writes
+abbrev pub Writes : List (List ℕ) → Shelved → Writing → Type 0
+Writes words r w = (t : Tool) × (text : List ℕ) × (words ≡ tool_words t) × Outputs r t text × Took w text

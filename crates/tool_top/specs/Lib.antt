@@ -1,10 +1,8 @@
-pub mod Command
-pub mod Words
-pub mod ListText
-pub mod OutcomeList
-pub mod Needs
-pub mod Plain
-pub mod Past
+pub mod Outside
+pub mod Faults
 pub mod Serial
-pub mod Written
+pub mod Lower
+pub mod Schedules
 pub mod Ends
+pub mod Carried
+pub mod Replayed

@@ -1,20 +1,24 @@
--- A run that carries out one product after another, in ascending order.
-use Rattle.std.specs.Prelude.{◌≡◌, ℕ, ◌+◌, ◌≤◌, slice_get, List, [], ◌∷◌, ◌++◌, map, flat_map, replicate, All, Option, Some, None}
+-- What `serial` writes.
+use Rattle.std.specs.Prelude.{◌≡◌, ℕ, List, [], ◌∷◌, flat_map, take, slice_get, Option, Some}
 use Rattle.std.specs.List.Sorted.{IsStrictlyIncreasing}
 use Rattle.pauli_product.specs.Signed.{Signed}
-use Rattle.source_model.specs.declared.Given.{Given}
-use Rattle.source_model.specs.declared.Given.TheVariants as given
-use Rattle.source_model.specs.declared.Kind.TheVariants as kind
-use Rattle.source_model.specs.declared.Static.{Static}
-use Rattle.source_model.specs.Used.{UsedBy}
-use Rattle.patch_layout.specs.Grid.{Grid, Wanted, Open, IsAncilla, HasStore}
-use Rattle.patch_layout.specs.Row.{IsUsed}
+use Rattle.source_model.specs.SourceRun.{bit_after}
+use Rattle.patch_layout.specs.declared.look.Look.{Look}
+use Rattle.region_plan.specs.Answer.{LeastJoined}
 use Rattle.board_core.specs.declared.Noted.{Noted}
 use Rattle.board_core.specs.declared.Entry.{Entry}
 use Rattle.board_core.specs.declared.Entry.TheVariants.{Claim, Deliver, Release, Step, Settle}
-use Rattle.board_core.specs.History.{History}
+use Rattle.board_core.specs.Headline.{IsOneLegalHistory, job_of}
+use Rattle.board_core.specs.History.{History, entries}
+use Rattle.board_core.specs.Legal.{Job as BoardJob}
+use Rattle.board_core.specs.Shows.{Shows}
+use Rattle.schedule_text.specs.Text.{text_of, two}
+use Rattle.job_read.specs.declared.Job.{Job}
 
--- ---- what the run promises
+-- the board's job of what was read
+abbrev pub board_job : Job → BoardJob
+board_job job = job_of job.circuit.items job.layout job.outcomes.fails
+
 abbrev pub claims_in : Entry → List ℕ
 claims_in (Claim p axis port state cells) = p ∷ []
 claims_in (Deliver p g) = []
@@ -26,52 +30,23 @@ claims_in (Settle p flip) = []
 abbrev pub ClaimsAscend : History → Type 0
 ClaimsAscend h = IsStrictlyIncreasing (flat_map claims_in h)
 
--- each entry is by pass 0
-abbrev pub ByZero : List Noted → Type 0
-ByZero noted = All (λ n. n.by ≡ 0) noted
+-- the region is joined side by side in the cells that are free behind a history, each time by the least number of cells, from the
+-- least first cell that serves, and through the least port that serves
+abbrev pub IsJoinedBehind : BoardJob → List Noted → ℕ → Option ℕ → List ℕ → Type 0
+IsJoinedBehind j h p port cells = (look : Look) × Shows (record { job = j; history = h }) p look × LeastJoined j.grid look port cells
 
--- ---- what it asks of a grid
--- the grid is open for the qubits that the products use
-abbrev pub IsOpenFor : Grid → List Static → Type 0
-IsOpenFor g products = (w : Wanted) × Open g w × ((q : ℕ) → UsedBy products q → IsUsed w.used q)
+-- so is each claimed region
+abbrev pub RegionsJoin : BoardJob → List Noted → Type 0
+RegionsJoin j h =
+    (n by p : ℕ) (axis : Signed) (port state : Option ℕ) (cells : List ℕ)
+    → slice_get h n ≡ Some (record { by = by; entry = Claim p axis port state cells })
+    → IsJoinedBehind j (take n h) p port cells
 
--- factory 0 has a port with room for a state
-abbrev pub HasFactory : Grid → Type 0
-HasFactory g = (store : ℕ) × HasStore g 0 store × (1 ≤ store)
-
--- the grid serves the products: it is open for them, has an ancilla cell, and where there are rotations factory 0
-pub record Serves (g : Grid) (products : List Static) : Type 0 where
-  pub open_for : IsOpenFor g products
-  pub some : (c : ℕ) × IsAncilla g c
-  pub factory : (p : ℕ) (s : Static) → slice_get products p ≡ Some s → s.kind ≡ kind.Rotation → HasFactory g
-
--- ---- what each product adds to the history
--- a rotation takes a state of its own, which eleven steps of factory 0 make
-abbrev pub steps_for : Given → History
-steps_for (given.Rotation raw x) = replicate 11 (Step 0)
-steps_for (given.Measure raw) = []
-steps_for given.Settled = []
-
--- the state that it takes, where so many were made before it
-abbrev pub state_for : Given → ℕ → Option ℕ
-state_for (given.Rotation raw x) made = Some made
-state_for (given.Measure raw) made = None
-state_for given.Settled made = None
-
-abbrev pub port_for : Given → Option ℕ
-port_for (given.Rotation raw x) = Some 0
-port_for (given.Measure raw) = None
-port_for given.Settled = None
-
--- how many states are made behind it
-abbrev pub made_after : Given → ℕ → ℕ
-made_after (given.Rotation raw x) made = made + 1
-made_after (given.Measure raw) made = made
-made_after given.Settled made = made
-
-abbrev pub carried_out : ℕ → Signed → Given → ℕ → List ℕ → History
-carried_out p axis g made cells = steps_for g ++ Claim p axis (port_for g) (state_for g made) cells ∷ Deliver p g ∷ Release p ∷ []
-
--- entries by pass 0
-abbrev pub by_zero : History → List Noted
-by_zero h = map (λ e. record { by = 0; entry = e }) h
+-- the text is that of one legal history of the job, whose bits are the source's for its outcomes; products are claimed in ascending
+-- order, and each region is joined in the free cells
+pub record IsSerialSchedule (job : Job) (text : List ℕ) : Type 0 where
+  pub history : List Noted
+  pub legal : IsOneLegalHistory job.circuit.items job.layout job.outcomes.fails job.outcomes.given (entries history)
+  pub ascending : ClaimsAscend (entries history)
+  pub joined : RegionsJoin (board_job job) history
+  pub written : text ≡ text_of two history job.circuit.registers (bit_after job.circuit.items job.outcomes.given)

@@ -1,49 +1,91 @@
-//! The line that says why nothing was written.
+//! Why a command ends before its output is written.
 
-ghost use Rattle.std.specs.Prelude.{◌≡◌, ◌≤◌, ◌++◌, codes, OnOk, OnErr};
-ghost use Rattle.patch_base.specs.Outside.{Rose, Grew, AppendsPrefix};
-ghost use Rattle.tool_top.specs.Ends.{fault_line};
+ghost use Rattle.std.specs.Prelude.{◌≡◌};
+ghost use Rattle.tool_top.specs.Faults.{status_of};
 
-use crate::end::End;
-use crate::words::Serial;
-use itoa::Buffer;
-use patch_base::{Failed, Sink, write_all};
+use job_read::JobFault;
+use outcome_table::OutcomeFault;
+use patch_base::{Failed, Memory};
+use patch_layout::LayoutFault;
+use qasm_lex::CircuitFault;
 
-/// Writes a line of two parts.
-pub fn write_line<E: Sink>(err: &mut E, first: &[u8], second: &[u8]) -> Result<(), Failed>
-    ensures counts { E.faults err.old ≤ E.faults err.new }
-    ensures all { OnOk result (Grew (E.taken err.old) (E.taken err.new) (first.now ++ second.now ++ codes "\n")) }
-    ensures part { OnErr result (AppendsPrefix (E.taken err.old) (E.taken err.new) (first.now ++ second.now ++ codes "\n")) }
-    ensures failed { OnErr result (Rose (E.faults err.old) (E.faults err.new)) }
-{
-    write_all(err, first)?;
-    write_all(err, second)?;
-    write_all(err, b"\n")?;
-    Ok(())
+/// Why a command ends before all of its output is written.
+#[derive(Clone, Copy, Debug, PartialEq, Eq)]
+pub enum Fault {
+    /// The circuit, the layout or the outcomes can't be read, or are refused.
+    Job(JobFault),
+    /// The schedule's text can't be read.
+    ScheduleUnread,
+    /// The schedule's text is past 64 MiB.
+    ScheduleTooLong,
+    /// The first bad line of the schedule, counted from 1.
+    ScheduleIllegal { line: u32 },
+    /// The output failed.
+    Unwritten,
+    /// Want of memory.
+    Memory,
 }
 
-/// Writes the fault line of an end, or nothing where all was done.
-pub fn say<E: Sink>(err: &mut E, names: Serial<'_>, end: End) -> Result<(), Failed>
-    ensures counts { E.faults err.old ≤ E.faults err.new }
-    ensures all { OnOk result (Grew (E.taken err.old) (E.taken err.new) (fault_line names.entry.circuit.now names.entry.outcomes.now end)) }
-    ensures part { OnErr result (AppendsPrefix (E.taken err.old) (E.taken err.new) (fault_line names.entry.circuit.now names.entry.outcomes.now end)) }
-    ensures failed { OnErr result (Rose (E.faults err.old) (E.faults err.new)) }
-{
-    match end {
-        End::Done => Ok(()),
-        End::CircuitUnread => write_line(err, b"read ", names.circuit.as_bytes()),
-        End::OutcomesUnread => write_line(err, b"read ", names.outcomes.as_bytes()),
-        End::CircuitRefused => write_line(err, b"circuit", b""),
-        End::OutcomesRefused => write_line(err, b"outcomes", b""),
-        End::PatchMissing { qubit } => {
-            let mut buffer = Buffer::new();
-            write_line(
-                err,
-                b"layout PatchMissing ",
-                buffer.format(qubit).as_bytes(),
-            )
+impl Fault {
+    /// The status that the program ends with.
+    pub fn status(self) -> u8
+        ensures { result ≡ status_of self }
+    {
+        match self {
+            Fault::Job(fault) => job_status(fault),
+            Fault::ScheduleTooLong | Fault::ScheduleIllegal { line: _ } => 6,
+            Fault::ScheduleUnread => 7,
+            Fault::Unwritten => 8,
+            Fault::Memory => 9,
         }
-        End::Unwritten => write_line(err, b"write", b""),
-        End::NoMemory => write_line(err, b"memory", b""),
+    }
+}
+
+// Want of memory has one status, whoever met it.
+fn job_status(fault: JobFault) -> u8
+    ensures { result ≡ status_of (Fault.Job fault) }
+{
+    match fault {
+        JobFault::Read { which: _ } => 7,
+        JobFault::Circuit(CircuitFault::At { line: _, kind: _ }) => 3,
+        JobFault::Layout(LayoutFault::Memory) => 9,
+        JobFault::Layout(_) => 4,
+        JobFault::Outcomes(OutcomeFault::Memory) => 9,
+        JobFault::Outcomes(_) => 5,
+        JobFault::Circuit(CircuitFault::Memory) => 9,
+        JobFault::Memory => 9,
+    }
+}
+
+impl From<JobFault> for Fault {
+    ghost use Rattle.std.specs.Prelude.{◌≡◌};
+    ghost use Rattle.tool_top.specs.declared.fault.Fault.TheVariants as fault;
+
+    ghost from_gives = { λ f e. e ≡ fault.Job f };
+
+    fn from(fault: JobFault) -> Fault {
+        Fault::Job(fault)
+    }
+}
+
+impl From<Memory> for Fault {
+    ghost use Rattle.std.specs.Prelude.{◌≡◌};
+    ghost use Rattle.tool_top.specs.declared.fault.Fault.TheVariants as fault;
+
+    ghost from_gives = { λ _ e. e ≡ fault.Memory };
+
+    fn from(_want: Memory) -> Fault {
+        Fault::Memory
+    }
+}
+
+impl From<Failed> for Fault {
+    ghost use Rattle.std.specs.Prelude.{◌≡◌};
+    ghost use Rattle.tool_top.specs.declared.fault.Fault.TheVariants as fault;
+
+    ghost from_gives = { λ _ e. e ≡ fault.Unwritten };
+
+    fn from(_failed: Failed) -> Fault {
+        Fault::Unwritten
     }
 }

@@ -1,17 +1,19 @@
 //! What `patchtool` does.
 #![tactic(auto)]
 
-mod end;
+mod board;
 mod fault;
-mod list_text;
-mod need;
-mod outcome_text;
-mod runner;
+mod layout;
+mod lower;
+mod migrate;
+mod saying;
+mod schedule;
 mod serial;
+mod slices;
 #[cfg(test)]
 mod tests;
 mod top;
-mod words;
+mod verify;
 
-pub use end::End;
+pub use fault::Fault;
 pub use top::tool_main;

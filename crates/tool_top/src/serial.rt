@@ -1,134 +1,94 @@
-//! A job carried out on one thread.
+//! The command `serial`: a job carried out on one thread.
 
-ghost use Rattle.std.specs.Prelude.{◌≡◌, ℕ, ◌≤◌, List, length, min};
-ghost use Rattle.tool_top.specs.Ends.{Because, LaysOut, ReadsTable, Writes, reading, writing};
-ghost use Rattle.source_model.specs.Circuits.{WellFormed, RightKinds};
+ghost use Rattle.std.specs.Prelude.{◌≡◌, ℕ, ◌≤◌, List, IfOk};
+ghost use Rattle.source_model.specs.declared.Given.{Given};
+ghost use Rattle.source_model.specs.Circuits.{WellFormed};
+ghost use Rattle.source_model.specs.SourceRun.{bit_after};
 ghost use Rattle.source_model.specs.Statics.{statics};
-ghost use Rattle.patch_layout.specs.Row.{row_grid};
-ghost use Rattle.tool_top.specs.Plain.{IsPlain};
-ghost use Rattle.tool_top.specs.Serial.{Serves};
+ghost use Rattle.board_core.specs.Laws.{LegalAndCompleteIsTheHeadline};
+ghost use Rattle.schedule_text.specs.Text.{text_of, two};
+ghost use Rattle.job_read.specs.Kept.{IsJob};
+ghost use Rattle.tool_words.specs.Commands as tool;
+ghost use Rattle.tool_top.specs.Outside.{shelved, writing};
+ghost use Rattle.tool_top.specs.Carried.{IsBroughtToEnd, IsComplete, WritesText};
+ghost use Rattle.tool_top.specs.Ends.{Accepts, Ends, IsDone};
 
-use crate::end::End;
-use crate::list_text::read_list;
-use crate::need::need_of;
-use crate::outcome_text::read_table;
-use crate::runner::run;
-use crate::words::Serial;
-use patch_base::{ReadFault, Shelf, Sink, TEXT_BYTES, read_text};
-use patch_layout::{Layout, LayoutFault};
-use schedule_text::write_history;
-use source_model::{Circuit, Given, bits_plain};
+use crate::board::new_board;
+use crate::fault::Fault;
+use board_core::{Board, law_headline};
+use finish_run::finish;
+use job_read::{Job, read_job};
+use patch_base::{Memory, Shelf, Sink};
+use schedule_text::{bits_of, write_schedule};
+use source_model::Circuit;
 use std::alloc::Global;
 
-/// Carries the circuit out on the layout and writes its schedule.
-fn write_run<O: Sink>(
-    alloc: Global,
-    circuit: &Circuit,
-    given: &[Given],
-    layout: &Layout,
-    out: &mut O,
-) -> End
-    requires well_formed { WellFormed circuit.now }
-    requires plain { IsPlain circuit.now.items }
-    requires kinds { RightKinds circuit.now.items given.now }
-    requires few { length given.now ≤ 16384 }
-    requires row { layout.now ≡ row_grid (min circuit.now.qubits 64) }
-    requires serves { Serves layout.now (statics circuit.now.items) }
-    ensures counts { O.faults out.old ≤ O.faults out.new }
-    ensures ends { Writes (writing (O.taken out.old) (O.taken out.new) (O.faults out.old) (O.faults out.new)) circuit.now given.now result }
-{
-    let Ok(history) = run(alloc, circuit, given, layout) else {
-        return End::NoMemory;
-    };
-    let Ok(bits) = bits_plain(alloc, circuit, given) else {
-        return End::NoMemory;
-    };
-    match write_history(circuit, &history, &bits, out) {
-        Ok(()) => End::Done,
-        Err(_) => End::Unwritten,
-    }
-}
-
-/// Reads the outcomes, and goes on where they are accepted.
-fn with_outcomes<S: Shelf, O: Sink>(
-    alloc: Global,
-    circuit: &Circuit,
-    layout: &Layout,
-    outcomes: &str,
-    shelf: &mut S,
-    out: &mut O,
-) -> End
-    requires well_formed { WellFormed circuit.now }
-    requires plain { IsPlain circuit.now.items }
-    requires few { length circuit.now.items ≤ 16384 }
-    requires row { layout.now ≡ row_grid (min circuit.now.qubits 64) }
-    requires serves { Serves layout.now (statics circuit.now.items) }
-    ensures told { (n : List ℕ) → S.tells shelf.new n ≡ S.tells shelf.old n }
-    ensures counts { (n : List ℕ) → S.faults shelf.old n ≤ S.faults shelf.new n }
-    ensures out_counts { O.faults out.old ≤ O.faults out.new }
-    ensures ends { ReadsTable (reading (S.tells shelf.old) (S.faults shelf.old) (S.faults shelf.new))
-        (writing (O.taken out.old) (O.taken out.new) (O.faults out.old) (O.faults out.new)) outcomes.now circuit.now result }
-{
-    let text = match read_text(alloc, shelf, outcomes, TEXT_BYTES) {
-        Ok(text) => text,
-        Err(ReadFault::Failed) => return End::OutcomesUnread,
-        Err(ReadFault::Memory) => return End::NoMemory,
-    };
-    match read_table(alloc, &text, circuit.items.as_slice()) {
-        Ok(Some(given)) => write_run(alloc, circuit, &given, layout, out),
-        Ok(None) => End::OutcomesRefused,
-        Err(_) => End::NoMemory,
-    }
-}
-
-/// Makes the circuit's row layout, and goes on where it serves.
-fn on_row<S: Shelf, O: Sink>(
-    alloc: Global,
-    circuit: &Circuit,
-    outcomes: &str,
-    shelf: &mut S,
-    out: &mut O,
-) -> End
-    requires well_formed { WellFormed circuit.now }
-    requires plain { IsPlain circuit.now.items }
-    requires few { length circuit.now.items ≤ 16384 }
-    ensures told { (n : List ℕ) → S.tells shelf.new n ≡ S.tells shelf.old n }
-    ensures counts { (n : List ℕ) → S.faults shelf.old n ≤ S.faults shelf.new n }
-    ensures out_counts { O.faults out.old ≤ O.faults out.new }
-    ensures ends { LaysOut (reading (S.tells shelf.old) (S.faults shelf.old) (S.faults shelf.new))
-        (writing (O.taken out.old) (O.taken out.new) (O.faults out.old) (O.faults out.new)) outcomes.now circuit.now result }
-{
-    let Ok(need) = need_of(alloc, circuit) else {
-        return End::NoMemory;
-    };
-    match Layout::row(alloc, &need) {
-        Ok(layout) => with_outcomes(alloc, circuit, &layout, outcomes, shelf, out),
-        Err(LayoutFault::PatchMissing { qubit }) => End::PatchMissing { qubit },
-        Err(_) => End::NoMemory,
-    }
-}
-
-/// Reads the two texts, carries the circuit out on its row layout, and writes the schedule.
+/// Reads a job, brings its board to its end, and writes the schedule.
 pub fn serial<S: Shelf, O: Sink>(
     alloc: Global,
-    names: Serial<'_>,
+    circuit: &str,
+    layout: &str,
+    outcomes: &str,
     shelf: &mut S,
     out: &mut O,
-) -> End
+) -> Result<(), Fault>
     ensures told { (n : List ℕ) → S.tells shelf.new n ≡ S.tells shelf.old n }
     ensures counts { (n : List ℕ) → S.faults shelf.old n ≤ S.faults shelf.new n }
     ensures out_counts { O.faults out.old ≤ O.faults out.new }
-    ensures ends { Because (reading (S.tells shelf.old) (S.faults shelf.old) (S.faults shelf.new))
-        (writing (O.taken out.old) (O.taken out.new) (O.faults out.old) (O.faults out.new)) names.entry.circuit.now names.entry.outcomes.now result }
+    ensures ends { let r = shelved (S.tells shelf.old) (S.faults shelf.old) (S.faults shelf.new) in
+        let w = writing (O.taken out.old) (O.taken out.new) (O.faults out.old) (O.faults out.new) in
+        Ends r w (tool.serial circuit.now layout.now outcomes.now) result }
+    ensures complete { let r = shelved (S.tells shelf.old) (S.faults shelf.old) (S.faults shelf.new) in
+        Accepts r (tool.serial circuit.now layout.now outcomes.now) → IsDone result }
 {
-    let text = match read_text(alloc, shelf, names.circuit, TEXT_BYTES) {
-        Ok(text) => text,
-        Err(ReadFault::Failed) => return End::CircuitUnread,
-        Err(ReadFault::Memory) => return End::NoMemory,
-    };
-    match read_list(alloc, &text) {
-        Ok(Some(circuit)) => on_row(alloc, &circuit, names.outcomes, shelf, out),
-        Ok(None) => End::CircuitRefused,
-        Err(_) => End::NoMemory,
+    law_headline();
+    let job = read_job(alloc, shelf, circuit, layout, outcomes)?;
+    let done = carry_out(alloc, job)?;
+    write_board(alloc, &done.circuit, &done.board, out)
+}
+
+// A circuit, and the board on which it was carried out.
+#[derive(Drop)]
+struct Done {
+    circuit: Circuit,
+    board: Board,
+}
+
+// Brings the new board of a job to its end.
+fn carry_out(alloc: Global, job: Job) -> Result<Done, Memory>
+    requires { IsJob job }
+    ensures circuit { IfOk result (λ d. d.circuit ≡ job.circuit) }
+    ensures board { IfOk result (λ d. IsBroughtToEnd job d.board) }
+{
+    let Job {
+        circuit,
+        products,
+        layout,
+        outcomes,
+    } = job;
+    let board = new_board(alloc, layout, products, outcomes.fails.as_slice())?;
+    match finish(alloc, board, &outcomes) {
+        Ok(board) => Ok(Done { circuit, board }),
+        Err(_) => Err(Memory),
     }
+}
+
+/// Writes the schedule of a circuit's board whose products are all done.
+pub fn write_board<O: Sink>(
+    alloc: Global,
+    circuit: &Circuit,
+    board: &Board,
+    out: &mut O,
+) -> Result<(), Fault>
+    requires circuit { WellFormed circuit.now }
+    requires products { board.now.job.products ≡ statics circuit.now.items }
+    ensures out_counts { O.faults out.old ≤ O.faults out.new }
+    ensures written { (table : List Given) → IsComplete circuit.now board.now table →
+        let w = writing (O.taken out.old) (O.taken out.new) (O.faults out.old) (O.faults out.new) in
+        WritesText w (text_of two board.now.history circuit.now.registers (bit_after circuit.now.items table)) result }
+    ensures complete { IsDone result }
+{
+    let bits = bits_of(alloc, circuit, board)?;
+    write_schedule(circuit, board, &bits, out)?;
+    Ok(())
 }

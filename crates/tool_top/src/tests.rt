@@ -1,172 +1,429 @@
+//! Worked rows of the commands: `c`, `l`, `o` and `s` name a circuit, a layout, outcomes and a schedule.
+
 use crate::tool_main;
 use patch_base::{Memory, MemoryShelf, MemorySink};
 use std::alloc::{AllocError, Global};
+use std::process::Abort;
 use std::test::Fail;
 
-const NAMES: [&str; 4] = ["serial", "circuit", "-", "outcomes"];
+// Rotations about Z and X, and a measurement of X.
+const THREE: &str = "products 1 1\nc c 1\nr +Z\nr +X\nm +X c 0\n";
 
-fn words(alloc: Global, names: &[&str]) -> Result<Vec<String>, AllocError> {
+// Their outcomes.
+const OUTCOMES: &str = "outcomes 1\nr 0 1 0\nr 1 0 0\nm 2 0\n";
+
+// A schedule of theirs, of version 1.
+const SCHEDULE: &str =
+    "schedule 1\nS 0\nS 0\nS 0\nS 0\nS 0\nS 0\nS 0\nS 0\nS 0\nS 0\nS 0\nC 0 +Z 0 0 1 2 3\nD 0 1 0\nR 0\nS 0\nS 0\nS 0\nS 0\nS 0\nS 0\nS 0\nS 0\nS 0\nS 0\nS 0\nC 1 -Y 0 1 1 2 3 6\nD 1 0 0\nR 1\nC 2 -Y - - 0 1 4\nD 2 0\nR 2\nbits c 1\n";
+
+// The same in version 2.
+const MIGRATED: &str =
+    "schedule 2\n0 S 0\n0 S 0\n0 S 0\n0 S 0\n0 S 0\n0 S 0\n0 S 0\n0 S 0\n0 S 0\n0 S 0\n0 S 0\n0 C 0 +Z 0 0 1 2 3\n0 D 0 1 0\n0 R 0\n0 S 0\n0 S 0\n0 S 0\n0 S 0\n0 S 0\n0 S 0\n0 S 0\n0 S 0\n0 S 0\n0 S 0\n0 S 0\n0 C 1 -Y 0 1 1 2 3 6\n0 D 1 0 0\n0 R 1\n0 C 2 -Y - - 0 1 4\n0 D 2 0\n0 R 2\nbits c 1\n";
+
+// And with entries by other passes.
+const PASSES: &str =
+    "schedule 2\n3 S 0\n0 S 0\n0 S 0\n0 S 0\n0 S 0\n0 S 0\n0 S 0\n0 S 0\n0 S 0\n0 S 0\n0 S 0\n0 C 0 +Z 0 0 1 2 3\n0 D 0 1 0\n0 R 0\n0 S 0\n0 S 0\n0 S 0\n0 S 0\n0 S 0\n0 S 0\n0 S 0\n0 S 0\n0 S 0\n0 S 0\n0 S 0\n0 C 1 -Y 0 1 1 2 3 6\n0 D 1 0 0\n0 R 1\n63 C 2 -Y - - 0 1 4\n0 D 2 0\n0 R 2\nbits c 1\n";
+
+// A circuit of two bits that does nothing.
+const EMPTY: &str = "OPENQASM 2.0;\ncreg c[2];\n";
+
+// A layout of two patches without a port.
+const WALLED: &str = "layout 1 3 5\npatch 0 6 v\npatch 1 8 v\n";
+
+/// The texts of a call.
+#[derive(Clone, Copy)]
+struct Texts<'a> {
+    circuit: &'a str,
+    layout: &'a str,
+    outcomes: &'a str,
+    schedule: &'a str,
+}
+
+fn given_texts<'a>(
+    circuit: &'a str,
+    layout: &'a str,
+    outcomes: &'a str,
+    schedule: &'a str,
+) -> Texts<'a> {
+    Texts {
+        circuit,
+        layout,
+        outcomes,
+        schedule,
+    }
+}
+
+fn words_of(alloc: Global, line: &str) -> Result<Vec<String>, AllocError> {
     let mut words = Vec::new(alloc);
-    for name in names {
-        words.push(String::from_str(alloc, name)?)?;
+    for word in line.split(' ') {
+        words.push(String::from_str(alloc, word)?)?;
     }
     Ok(words)
 }
 
-fn shelf(alloc: Global, circuit: &[u8], outcomes: &[u8]) -> Result<MemoryShelf, Memory> {
+fn shelf(alloc: Global, texts: Texts<'_>) -> Result<MemoryShelf, Memory> {
     let mut shelf = MemoryShelf::new(alloc);
-    shelf.add("circuit", circuit)?;
-    shelf.add("outcomes", outcomes)?;
+    shelf.add("c", texts.circuit.as_bytes())?;
+    shelf.add("l", texts.layout.as_bytes())?;
+    shelf.add("o", texts.outcomes.as_bytes())?;
+    shelf.add("s", texts.schedule.as_bytes())?;
     Ok(shelf)
 }
 
-// Whether a call with these texts ends with this status, output and fault line.
+// Asserts how a call ends.
 fn ends(
+    rt: &impl Abort,
     alloc: Global,
-    names: &[&str],
-    texts: (&[u8], &[u8]),
+    line: &str,
+    texts: Texts<'_>,
     status: u8,
-    output: &[u8],
-    line: &[u8],
-) -> Result<bool, Fail> {
-    let words = words(alloc, names)?;
-    let mut shelf = shelf(alloc, texts.0, texts.1)?;
+    output: &str,
+    said: &str,
+) -> Result<(), Fail> {
+    let words = words_of(alloc, line)?;
+    let mut shelf = shelf(alloc, texts)?;
     let mut out = MemorySink::new(alloc, 4096, 4096)?;
     let mut err = MemorySink::new(alloc, 64, 64)?;
     let ended = tool_main(alloc, &words, &mut shelf, &mut out, &mut err);
-    Ok(ended == status && out.bytes() == output && err.bytes() == line)
-}
-
-const EMPTY: (&[u8], &[u8]) = (b"products 1 0\nc c 2\n", b"outcomes 1");
-
-#[test]
-fn writes_a_schedule(rt: HostRuntime) -> Result<(), Fail> {
-    let one = (
-        b"products 1 1\nc c 2\nm -X c 1\n".as_slice(),
-        b"outcomes 1\nm 0 0\n".as_slice(),
-    );
-    let schedule = b"schedule 2\n0 C 0 -X - - 0 1 2 3 4 6\n0 D 0 0\n0 R 0\nbits c 10\n";
-    assert!(rt;
-        ends(
-            rt.alloc(),
-            &NAMES,
-            EMPTY,
-            0,
-            b"schedule 2\nbits c 00\n",
-            b""
-        )?
-    );
-    assert!(rt; ends(rt.alloc(), &NAMES, one, 0, schedule, b"")?);
+    assert_eq!(rt; ended, status, "{line}");
+    assert_eq!(rt; out.bytes(), output.as_bytes(), "{line}");
+    assert_eq!(rt; err.bytes(), said.as_bytes(), "{line}");
     Ok(())
 }
 
 #[test]
-fn refuses_words_and_names(rt: HostRuntime) -> Result<(), Fail> {
-    assert!(rt;
-        ends(
-            rt.alloc(),
-            &["serial", "circuit", "row", "outcomes"],
-            EMPTY,
-            2,
-            b"",
-            b"words\n"
-        )?
-    );
-    assert!(rt;
-        ends(
-            rt.alloc(),
-            &["serial", "circuit", "-"],
-            EMPTY,
-            2,
-            b"",
-            b"words\n"
-        )?
-    );
-    assert!(rt;
-        ends(
-            rt.alloc(),
-            &["serial", "absent", "-", "outcomes"],
-            EMPTY,
-            7,
-            b"",
-            b"read absent\n"
-        )?
-    );
-    assert!(rt;
-        ends(
-            rt.alloc(),
-            &["serial", "circuit", "-", "absent"],
-            EMPTY,
-            7,
-            b"",
-            b"read absent\n"
-        )?
-    );
+fn writes(rt: HostRuntime) -> Result<(), Fail> {
+    for (line, texts, output) in [
+        (
+            "serial c - o",
+            given_texts(EMPTY, "", "outcomes 1\n", ""),
+            "schedule 2\nbits c 00\n",
+        ),
+        (
+            "serial c - o",
+            given_texts(THREE, "", OUTCOMES, ""),
+            "schedule 2\n0 S 0\n0 S 0\n0 S 0\n0 S 0\n0 S 0\n0 S 0\n0 S 0\n0 S 0\n0 S 0\n0 S 0\n0 S 0\n0 C 0 +Z 0 0 1 2 3\n0 D 0 1 0\n0 R 0\n0 S 0\n0 S 0\n0 S 0\n0 S 0\n0 S 0\n0 S 0\n0 S 0\n0 S 0\n0 S 0\n0 S 0\n0 S 0\n0 C 1 -Y 0 1 0 1 2 3 4\n0 D 1 0 0\n0 R 1\n0 C 2 -Y - - 0 1 4\n0 D 2 0\n0 R 2\nbits c 1\n",
+        ),
+        (
+            "serial c l o",
+            given_texts(
+                "OPENQASM 2.0;\ninclude \"qelib1.inc\";\nqreg q[2];\ncreg c[1];\nmeasure q[0]->c[0];\nif(c==1) x q[1];\nmeasure q[1]->c[0];\n",
+                WALLED,
+                "outcomes 1\nm 0 1\nm 2 0\n",
+                "",
+            ),
+            "schedule 2\n0 C 0 +ZI - - 5\n0 D 0 1\n0 R 0\n0 T 1 1\n0 C 2 -IZ - - 7\n0 D 2 0\n0 R 2\nbits c 1\n",
+        ),
+        (
+            "lower c",
+            given_texts(
+                "OPENQASM 2.0;\ninclude \"qelib1.inc\";\nqreg q[3];\nccx q[0],q[1],q[2];\n",
+                "",
+                "",
+                "",
+            ),
+            "products 1 3\nr -IZX\nr +ZZX\nr -ZIX\nr +IZI\nr +IIX\nr +ZII\nr -ZZI\n",
+        ),
+        (
+            "lower c",
+            given_texts(
+                "OPENQASM 2.0;\ninclude \"qelib1.inc\";\nqreg q[1];\ncreg c[1];\nx q[0];\nreset q[0];\nmeasure q[0]->c[0];\n",
+                "",
+                "",
+                "",
+            ),
+            "products 2 1\nc c 1\nh -Z\nj +X 0\nm -Z c 0\n",
+        ),
+        (
+            "lower c",
+            given_texts(
+                "OPENQASM 2.0;\ninclude \"qelib1.inc\";\nqreg q[5];\ncreg c[5];\nh q[0];\ncx q[0],q[1];\nt q[1];\nswap q[1],q[2];\ntdg q[2];\nbarrier q[0],q[1],q[2],q[3],q[4];\nh q[2];\nmeasure q -> c;\n",
+                "",
+                "",
+                "",
+            ),
+            "products 1 5\nc c 5\nr +XZIII\nr -XZIII\nm +XIIII c 0\nm +IIZII c 1\nm +IXIII c 2\nm +IIIZI c 3\nm +IIIIZ c 4\n",
+        ),
+        (
+            "layout c -",
+            given_texts(THREE, "", "", ""),
+            "open 2 4\n     .     .     .     .\n     .    q0     .    m0\n",
+        ),
+        (
+            "verify c - o s",
+            given_texts(THREE, "", OUTCOMES, SCHEDULE),
+            "legal\n",
+        ),
+        (
+            "verify c - o s",
+            given_texts(THREE, "", OUTCOMES, PASSES),
+            "legal\n",
+        ),
+        (
+            "verify c l o s",
+            given_texts(
+                "products 1 2\nc c 1\nm +ZI c 0\nm +IZ c 0\n",
+                WALLED,
+                "outcomes 1\nm 0 1\nm 1 0\n",
+                "schedule 1\nC 1 +IZ - - 9\nD 1 0\nR 1\nC 0 +ZI - - 5\nD 0 1\nR 0\nbits c 0\n",
+            ),
+            "legal\n",
+        ),
+        (
+            "slices c - o s",
+            given_texts(THREE, "", OUTCOMES, SCHEDULE),
+            "slices 1 25\nslice 1 0\nslice 2 0\nslice 3 0\nslice 4 0\nslice 5 0\nslice 6 0\nslice 7 0\nslice 8 0\nslice 9 0\nslice 10 0\nslice 11 0\nslice 12\n     .     0     0     0\n     .     0     .     0\nslice 13 0\nslice 14 0\nslice 15 0\nslice 16 0\nslice 17 0\nslice 18 0\nslice 19 0\nslice 20 0\nslice 21 0\nslice 22 0\nslice 23 0\nslice 24\n     .     1     1     1\n     .     1     1     1\nslice 25\n     2     2     .     .\n     2     2     .    m0\n",
+        ),
+        (
+            "migrate c - o s",
+            given_texts(THREE, "", OUTCOMES, SCHEDULE),
+            MIGRATED,
+        ),
+        (
+            "migrate c - o s",
+            given_texts(THREE, "", OUTCOMES, PASSES),
+            PASSES,
+        ),
+    ] {
+        ends(&rt, rt.alloc(), line, texts, 0, output, "")?;
+    }
     Ok(())
 }
 
 #[test]
-fn refuses_texts(rt: HostRuntime) -> Result<(), Fail> {
-    let far =
-        b"products 1 65\nc c 1\nm +IIIIIIIIIIIIIIIIIIIIIIIIIIIIIIIIIIIIIIIIIIIIIIIIIIIIIIIIIIIIIIIIZ c 0\n";
-    let table = b"outcomes 1\nm 0 0\n";
-    assert!(rt;
-        ends(
-            rt.alloc(),
-            &NAMES,
-            (b"products 1 1\nr +I\n", b"outcomes 1\nr 0 0 0\n"),
+fn refuses(rt: HostRuntime) -> Result<(), Fail> {
+    for (line, texts, status, said) in [
+        ("verify c - o", given_texts("", "", "", ""), 2, "words\n"),
+        ("layers c", given_texts("", "", "", ""), 2, "words\n"),
+        ("--help", given_texts("", "", "", ""), 2, "words\n"),
+        ("lower none", given_texts("", "", "", ""), 7, "read none\n"),
+        (
+            "layout c none",
+            given_texts(EMPTY, "", "", ""),
+            7,
+            "read none\n",
+        ),
+        (
+            "serial c - none",
+            given_texts(EMPTY, "", "", ""),
+            7,
+            "read none\n",
+        ),
+        (
+            "verify c - o none",
+            given_texts(EMPTY, "", "outcomes 1\n", ""),
+            7,
+            "read none\n",
+        ),
+        (
+            "lower c",
+            given_texts("", "", "", ""),
             3,
-            b"",
-            b"circuit\n"
-        )?
-    );
-    assert!(rt;
-        ends(
-            rt.alloc(),
-            &NAMES,
-            (far, table),
+            "circuit 1 Version\n",
+        ),
+        (
+            "lower c",
+            given_texts(
+                "OPENQASM 2.0;\ninclude \"qelib1.inc\";\nqreg q[2];\nqreg r[3];\ncx q,r;\n",
+                "",
+                "",
+                "",
+            ),
+            3,
+            "circuit 5 Sizes\n",
+        ),
+        (
+            "layout c none",
+            given_texts(
+                "OPENQASM 2.0;\ninclude \"qelib1.inc\";\nqreg q[2];\nh q[",
+                "",
+                "",
+                "",
+            ),
+            3,
+            "circuit 4 Syntax\n",
+        ),
+        (
+            "serial c none none",
+            given_texts("products 1 2\nr +II\n", "", "", ""),
+            3,
+            "circuit 2 Syntax\n",
+        ),
+        (
+            "layout c l",
+            given_texts(EMPTY, "layout 1 1 5\npatch 0 2 h\n", "", ""),
             4,
-            b"",
-            b"layout PatchMissing 64\n"
-        )?
-    );
-    assert!(rt;
-        ends(
-            rt.alloc(),
-            &NAMES,
-            (b"products 1 1\nr +Z\n", table),
+            "layout Split 3\n",
+        ),
+        (
+            "layout c l",
+            given_texts(
+                "products 1 1\nc c 1\nm +Z c 0\n",
+                "layout 1 1 3\npatch 0 0 h",
+                "",
+                "",
+            ),
+            4,
+            "layout Shut 0 Z\n",
+        ),
+        (
+            "serial c l none",
+            given_texts("products 1 1\nr +Z\n", WALLED, "", ""),
+            4,
+            "layout NoPort\n",
+        ),
+        (
+            "layout c l",
+            given_texts(EMPTY, "layout 1 1 5 \n", "", ""),
+            4,
+            "layout Form 1\n",
+        ),
+        (
+            "serial c - none",
+            given_texts(
+                "products 1 65\nc c 1\nm +IIIIIIIIIIIIIIIIIIIIIIIIIIIIIIIIIIIIIIIIIIIIIIIIIIIIIIIIIIIIIIIIZ c 0\n",
+                "",
+                "",
+                "",
+            ),
+            4,
+            "layout PatchMissing 64\n",
+        ),
+        (
+            "serial c - o",
+            given_texts(
+                THREE,
+                "",
+                "outcomes 1\nr 0 1 0\nr 1 0 0\nr 1 0 0\nm 2 0\n",
+                "",
+            ),
             5,
-            b"",
-            b"outcomes\n"
-        )?
-    );
+            "outcomes 4 Repeated\n",
+        ),
+        (
+            "verify c - o none",
+            given_texts(THREE, "", "outcomes 1\nr 0 1 0\nm 2 0\n", ""),
+            5,
+            "outcomes Missing 1\n",
+        ),
+        (
+            "serial c - o",
+            given_texts(
+                THREE,
+                "",
+                "outcomes 1\nr 0 1 0\nr 1 0 0\nm 2 0\nf 5 0\n",
+                "",
+            ),
+            5,
+            "outcomes 5 Factory\n",
+        ),
+        (
+            "verify c - o s",
+            given_texts(
+                THREE,
+                "",
+                OUTCOMES,
+                "schedule 1\nS 0\nS 0\nS 0\nS 0\nS 0\nS 0\nS 0\nS 0\nS 0\nS 0\nS 0\nC 0 +Z 0 0 1 2 3\nD 0 1 0\nR 0\nS 0\nS 0\nS 0\nS 0\nS 0\nS 0\nS 0\nS 0\nS 0\nS 0\nS 0\nC 1 +Y 0 1 1 2 3 6\nD 1 0 0\nR 1\nC 2 -Y - - 0 1 4\nD 2 0\nR 2\nbits c 1\n",
+            ),
+            6,
+            "schedule 27\n",
+        ),
+        (
+            "slices c - o s",
+            given_texts(
+                THREE,
+                "",
+                OUTCOMES,
+                "schedule 1\nS 0\nS 0\nS 0\nS 0\nS 0\nS 0\nS 0\nS 0\nS 0\nS 0\nS 0\nC 0 +Z 0 0 1 2 3\nD 0 1 0\nR 0\nS 0\nS 0\nS 0\nS 0\nS 0\nS 0\nS 0\nS 0\nS 0\nS 0\nS 0\nC 1 -Y 0 1 1 2 3 6\nD 1 0 0\n",
+            ),
+            6,
+            "schedule 29\n",
+        ),
+        (
+            "migrate c - o s",
+            given_texts(
+                THREE,
+                "",
+                OUTCOMES,
+                "schedule 1\nS 0\nS 0\nS 0\nS 0\nS 0\nS 0\nS 0\nS 0\nS 0\nS 0\nS 0\nC 0 +Z 0 0 1 2 3\nD 0 1 0\nR 0\nS 0\nS 0\nS 0\nS 0\nS 0\nS 0\nS 0\nS 0\nS 0\nS 0\nS 0\nC 1 -Y 0 1 1 2 3 6\nD 1 0 0\nR 1\nC 2 -Y - - 0 1 4\nD 2 0\nR 2\nbits c 0\n",
+            ),
+            6,
+            "schedule 33\n",
+        ),
+        (
+            "verify c - o s",
+            given_texts(
+                THREE,
+                "",
+                OUTCOMES,
+                "schedule 2\n64 S 0\n0 S 0\n0 S 0\n0 S 0\n0 S 0\n0 S 0\n0 S 0\n0 S 0\n0 S 0\n0 S 0\n0 S 0\n0 C 0 +Z 0 0 1 2 3\n0 D 0 1 0\n0 R 0\n0 S 0\n0 S 0\n0 S 0\n0 S 0\n0 S 0\n0 S 0\n0 S 0\n0 S 0\n0 S 0\n0 S 0\n0 S 0\n0 C 1 -Y 0 1 1 2 3 6\n0 D 1 0 0\n0 R 1\n0 C 2 -Y - - 0 1 4\n0 D 2 0\n0 R 2\nbits c 1\n",
+            ),
+            6,
+            "schedule 2\n",
+        ),
+    ] {
+        ends(&rt, rt.alloc(), line, texts, status, "", said)?;
+    }
     Ok(())
 }
 
+/// A shelf that gives seven bytes a call and fails at one call.
 #[test]
-fn tells_of_faults(rt: HostRuntime) -> Result<(), Fail> {
-    let names = words(rt.alloc(), &NAMES)?;
-    let mut texts = shelf(rt.alloc(), EMPTY.0, EMPTY.1)?;
-    let mut out = MemorySink::new(rt.alloc(), 64, 1)?;
-    out.fail_at(2)?;
-    let mut err = MemorySink::new(rt.alloc(), 64, 64)?;
-    assert_eq!(rt;
-        tool_main(rt.alloc(), &names, &mut texts, &mut out, &mut err),
-        8
-    );
-    assert_eq!(rt; out.bytes(), b"sc".as_slice());
-    assert_eq!(rt; err.bytes(), b"write\n".as_slice());
-    // A line that can't be written changes no status.
-    let mut texts = shelf(rt.alloc(), EMPTY.0, EMPTY.1)?;
-    texts.fail_at(0)?;
-    let mut out = MemorySink::new(rt.alloc(), 64, 64)?;
-    let mut err = MemorySink::new(rt.alloc(), 64, 2)?;
-    err.fail_at(1)?;
-    assert_eq!(rt;
-        tool_main(rt.alloc(), &names, &mut texts, &mut out, &mut err),
-        7
-    );
-    assert_eq!(rt; out.bytes(), b"".as_slice());
-    assert_eq!(rt; err.bytes(), b"re".as_slice());
+fn tells_of_a_shelf_that_fails(rt: HostRuntime) -> Result<(), Fail> {
+    let alloc = rt.alloc();
+    let words = words_of(alloc, "verify c - o s")?;
+    let texts = given_texts(EMPTY, "", "outcomes 1", "schedule 2\nbits c 00\n");
+    let mut done = false;
+    for call in 0..20u64 {
+        let mut shelf = shelf(alloc, texts)?;
+        shelf.most(7);
+        shelf.fail_at(call)?;
+        let mut out = MemorySink::new(alloc, 64, 64)?;
+        let mut err = MemorySink::new(alloc, 64, 64)?;
+        let status = tool_main(alloc, &words, &mut shelf, &mut out, &mut err);
+        let name = if call < 5 {
+            "read c\n"
+        } else if call < 8 {
+            "read o\n"
+        } else {
+            "read s\n"
+        };
+        done = status == 0;
+        if done {
+            assert_eq!(rt; call, 12);
+            break;
+        }
+        assert_eq!(rt; status, 7, "at {call}");
+        assert_eq!(rt; out.bytes(), b"".as_slice(), "at {call}");
+        assert_eq!(rt; err.bytes(), name.as_bytes(), "at {call}");
+    }
+    assert!(rt; done);
+    Ok(())
+}
+
+/// A sink that takes one byte a call and fails at one call.
+#[test]
+fn tells_of_a_sink_that_fails(rt: HostRuntime) -> Result<(), Fail> {
+    let alloc = rt.alloc();
+    let words = words_of(alloc, "serial c - o")?;
+    let text = "schedule 2\nbits c 00\n";
+    for call in 0..22u64 {
+        let mut shelf = shelf(alloc, given_texts(EMPTY, "", "outcomes 1\n", ""))?;
+        let mut out = MemorySink::new(alloc, 64, 1)?;
+        out.fail_at(call)?;
+        let mut err = MemorySink::new(alloc, 64, 2)?;
+        err.fail_at(1)?;
+        let status = tool_main(alloc, &words, &mut shelf, &mut out, &mut err);
+        if call == 21 {
+            assert_eq!(rt; status, 0);
+            assert_eq!(rt; err.bytes(), b"".as_slice());
+        } else {
+            assert_eq!(rt; status, 8, "at {call}");
+            // A line that can't be written changes no status.
+            assert_eq!(rt; err.bytes(), b"wr".as_slice(), "at {call}");
+        }
+        assert_eq!(rt; out.bytes().len() as u64, call, "at {call}");
+        assert!(rt; text.as_bytes().starts_with(out.bytes()), "at {call}");
+    }
     Ok(())
 }

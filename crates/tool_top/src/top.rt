@@ -1,13 +1,22 @@
 //! All that `patchtool` does.
 
-ghost use Rattle.std.specs.Prelude.{◌≡◌, ◌≤◌, ◌⊎◌, ℕ, List, map, string_bytes};
-ghost use Rattle.tool_top.specs.Ends.{CarriesOut, Ends, RefusesWords, reading, writing};
+ghost use Rattle.std.specs.Prelude.{◌≡◌, ◌≤◌, ◌⊎◌, ℕ, List, map, codes, string_bytes, IfSome, IfNone};
+ghost use Rattle.tool_words.specs.Commands.{Tool, tool_of, tool_words};
+ghost use Rattle.tool_top.specs.Outside.{Said, Untouched, shelved, writing};
+ghost use Rattle.tool_top.specs.Ends.{Accepts, CarriesOut, Ends, IsBuilt, IsDone, IsDoneStatus, RefusesWords, Writes};
 
-use crate::fault::{say, write_line};
+use crate::fault::Fault;
+use crate::layout::show_layout;
+use crate::lower::lower;
+use crate::migrate::migrate_schedule;
+use crate::saying::{say, write_line};
+use crate::schedule::Names;
 use crate::serial::serial;
-use crate::words::serial_words;
+use crate::slices::slice_schedule;
+use crate::verify::verify_schedule;
 use patch_base::{Shelf, Sink};
 use std::alloc::Global;
+use tool_words::{ToolCommand, tool_command};
 
 /// Does what the words say, with texts from the shelf, and gives the status. The output goes to `out`,
 /// and why it isn't all there to `err`.
@@ -18,16 +27,19 @@ pub fn tool_main<S: Shelf, O: Sink, E: Sink>(
     out: &mut O,
     err: &mut E,
 ) -> u8
-    // The bytes that the output took are the schedule of one legal history of the circuit and the
-    // table that the two texts stand for.
-    ensures headline { let read = reading (S.tells shelf.old) (S.faults shelf.old) (S.faults shelf.new) in
-        let written = writing (O.taken out.old) (O.taken out.new) (O.faults out.old) (O.faults out.new) in
-        result ≡ 0 → CarriesOut (map string_bytes words.now) read written }
+    // At status 0 the output took what the command writes. For `serial` it is the schedule of one legal history of the
+    // circuit on the layout, with the outcomes, that the three texts stand for.
+    ensures headline { let r = shelved (S.tells shelf.old) (S.faults shelf.old) (S.faults shelf.new) in
+        let w = writing (O.taken out.old) (O.taken out.new) (O.faults out.old) (O.faults out.new) in
+        result ≡ 0 → Writes (map string_bytes words.now) r w }
     // Each status has its cause, and its line on `err`.
-    ensures ends { let read = reading (S.tells shelf.old) (S.faults shelf.old) (S.faults shelf.new) in
-        let written = writing (O.taken out.old) (O.taken out.new) (O.faults out.old) (O.faults out.new) in
-        let said = writing (E.taken err.old) (E.taken err.new) (E.faults err.old) (E.faults err.new) in
-        RefusesWords (map string_bytes words.now) written said result ⊎ Ends (map string_bytes words.now) read written said result }
+    ensures ends { let r = shelved (S.tells shelf.old) (S.faults shelf.old) (S.faults shelf.new) in
+        let w = writing (O.taken out.old) (O.taken out.new) (O.faults out.old) (O.faults out.new) in
+        let e = writing (E.taken err.old) (E.taken err.new) (E.faults err.old) (E.faults err.new) in
+        RefusesWords (map string_bytes words.now) w e result ⊎ CarriesOut (map string_bytes words.now) r w e result }
+    // Words of a command and texts that are told and accepted give status 0, unless the outside fails.
+    ensures complete { let r = shelved (S.tells shelf.old) (S.faults shelf.old) (S.faults shelf.new) in
+        (t : Tool) → map string_bytes words.now ≡ tool_words t → Accepts r t → IsDoneStatus result }
 
     // What the shelf tells stays, and no count falls.
     ensures told { (n : List ℕ) → S.tells shelf.new n ≡ S.tells shelf.old n }
@@ -35,11 +47,100 @@ pub fn tool_main<S: Shelf, O: Sink, E: Sink>(
     ensures out_counts { O.faults out.old ≤ O.faults out.new }
     ensures err_counts { E.faults err.old ≤ E.faults err.new }
 {
-    let Some(names) = serial_words(words) else {
-        let _ = write_line(err, b"words", b"");
-        return 2;
+    let Some(command) = tool_command(words) else {
+        return refuse(err);
     };
-    let end = serial(alloc, names, shelf, out);
-    let _ = say(err, names, end);
-    end.status()
+    match carry_out(alloc, command, shelf, out) {
+        None => refuse(err),
+        Some(Ok(())) => 0,
+        Some(Err(fault)) => {
+            let _ = say(err, command, fault);
+            fault.status()
+        }
+    }
+}
+
+// Says that the words are those of no command.
+fn refuse<E: Sink>(err: &mut E) -> u8
+    ensures status { result ≡ 2 }
+    ensures counts { E.faults err.old ≤ E.faults err.new }
+    ensures said { Said (writing (E.taken err.old) (E.taken err.new) (E.faults err.old) (E.faults err.new)) (codes "words\n") }
+{
+    let _ = write_line(err, b"words", b"");
+    2
+}
+
+// Carries a command out; None for one that isn't built.
+fn carry_out<S: Shelf, O: Sink>(
+    alloc: Global,
+    command: ToolCommand<'_>,
+    shelf: &mut S,
+    out: &mut O,
+) -> Option<Result<(), Fault>>
+    ensures told { (n : List ℕ) → S.tells shelf.new n ≡ S.tells shelf.old n }
+    ensures counts { (n : List ℕ) → S.faults shelf.old n ≤ S.faults shelf.new n }
+    ensures out_counts { O.faults out.old ≤ O.faults out.new }
+    ensures built { IfSome result (λ end. IsBuilt (tool_of command.entry)) }
+    ensures ends { let r = shelved (S.tells shelf.old) (S.faults shelf.old) (S.faults shelf.new) in
+        let w = writing (O.taken out.old) (O.taken out.new) (O.faults out.old) (O.faults out.new) in
+        IfSome result (Ends r w (tool_of command.entry)) }
+    ensures complete { let r = shelved (S.tells shelf.old) (S.faults shelf.old) (S.faults shelf.new) in
+        Accepts r (tool_of command.entry) → IfSome result IsDone }
+    ensures other { IfNone result (IsBuilt (tool_of command.entry) → ⊥) }
+    ensures silent { IfNone result (Untouched (writing (O.taken out.old) (O.taken out.new) (O.faults out.old) (O.faults out.new))) }
+{
+    match command {
+        ToolCommand::Serial {
+            circuit,
+            layout,
+            outcomes,
+        } => Some(serial(alloc, circuit, layout, outcomes, shelf, out)),
+        ToolCommand::Lower { circuit } => Some(lower(alloc, circuit, shelf, out)),
+        ToolCommand::Layout { circuit, layout } => {
+            Some(show_layout(alloc, circuit, layout, shelf, out))
+        }
+        ToolCommand::Verify {
+            circuit,
+            layout,
+            outcomes,
+            schedule,
+        } => {
+            let names = Names {
+                circuit,
+                layout,
+                outcomes,
+                schedule,
+            };
+            Some(verify_schedule(alloc, names, shelf, out))
+        }
+        ToolCommand::Slices {
+            circuit,
+            layout,
+            outcomes,
+            schedule,
+        } => {
+            let names = Names {
+                circuit,
+                layout,
+                outcomes,
+                schedule,
+            };
+            Some(slice_schedule(alloc, names, shelf, out))
+        }
+        ToolCommand::Migrate {
+            circuit,
+            layout,
+            outcomes,
+            schedule,
+        } => {
+            let names = Names {
+                circuit,
+                layout,
+                outcomes,
+                schedule,
+            };
+            Some(migrate_schedule(alloc, names, shelf, out))
+        }
+        ToolCommand::Layers { .. } | ToolCommand::Least { .. } => None,
+    }
 }

@@ -1,0 +1,20 @@
+// The state of q[0], T H |0>, is carried over to q[2].
+OPENQASM 2.0;
+include "qelib1.inc";
+qreg q[3];
+creg mz[1];
+creg mx[1];
+creg out[1];
+h q[0];
+t q[0];
+h q[1];
+cx q[1],q[2];
+cx q[0],q[1];
+h q[0];
+measure q[0] -> mz[0];
+measure q[1] -> mx[0];
+if(mx==1) x q[2];
+if(mz==1) z q[2];
+tdg q[2];
+h q[2];
+measure q[2] -> out[0];

@@ -1,0 +1,66 @@
+-- Accepted texts leave nothing but the outside to end a command early.
+use Rattle.std.proofs.Common.{◌≡◌, ℕ, ◌+◌, List, length, take, Option, Some, None, IfSome, IfErr, IsSome, Result, Ok, Err, refl, ap, sym, ◌∙◌, subst, arith}
+use Rattle.std.specs.Prelude.{IsErrAnd}
+use Rattle.std.proofs.lemmas.Bool.{true≢false}
+use Rattle.std.proofs.lemmas.List.{take_all}
+use Rattle.magic_pool.specs.declared.Fail.{Fail}
+use Rattle.source_model.specs.declared.Circuit.{Circuit}
+use Rattle.patch_layout.specs.Grid.{Grid}
+use Rattle.board_core.specs.declared.Noted.{Noted}
+use Rattle.board_core.specs.Legal.{Job as BoardJob}
+use Rattle.board_core.specs.Position.{Position}
+use Rattle.schedule_text.specs.Text.{Version}
+use Rattle.history_replay.specs.Replay.{IsTextOf, asked}
+use Rattle.job_read.specs.declared.Job.{Job}
+use Rattle.job_read.specs.declared.fault.JobFault.{JobFault}
+use Rattle.job_read.specs.Kept.{IsJob}
+use Rattle.job_read.specs.Jobs as job_faults
+use Rattle.job_read.specs.Reading.{seen, IsNamed, IsTold}
+use Rattle.job_read.specs.Stages.{LayoutStands}
+use Rattle.tool_top.specs.declared.fault.Fault.{Fault}
+use Rattle.tool_top.specs.declared.fault.Fault.TheVariants as fault
+use Rattle.tool_top.specs.Schedules.{asked_of, IsShort}
+use Rattle.tool_top.specs.Carried.{new_position, parts_job}
+use Rattle.tool_top.specs.Ends.{IsDone, IsOutside}
+use Rattle.tool_top.proofs.Brought.{same_job}
+
+-- ---- errors of known kinds
+pub done_job : (end : Result (Unit {0}) Fault) (f : JobFault) → IsErrAnd end (λ e. e ≡ fault.Job f) → job_faults.IsOutside f → IsDone end
+done_job (Ok done) f is h = absurd is
+done_job (Err e) f is h = subst IsOutside (sym is) h
+
+pub done_for : (end : Result (Unit {0}) Fault) (f : Fault) → IsErrAnd end (λ e. e ≡ f) → IsOutside f → IsDone end
+done_for (Ok done) f is h = absurd is
+done_for (Err e) f is h = subst IsOutside (sym is) h
+
+-- ---- a later state of the shelf
+pub told_later : (tells tells' : List ℕ → Option (List ℕ)) (l : List ℕ) → tells' l ≡ tells l → (IsNamed l → IsSome (tells l)) → IsNamed l → IsSome (tells' l)
+told_later tells tells' l same told named = subst (λ (t : Option (List ℕ)). IsSome t) (sym same) (told named)
+
+pub layout_later : (tells tells' : List ℕ → Option (List ℕ)) (before before' after after' : List ℕ → ℕ) (l : List ℕ) (c c' : Circuit) (g : Grid) → tells' l ≡ tells l → c' ≡ c → LayoutStands l (seen tells before after l) c g → LayoutStands l (seen tells' before' after' l) c' g
+layout_later tells tells' before before' after after' l c c' g same is h =
+    subst (λ (d : Circuit). LayoutStands l (seen tells' before' after' l) d g) (sym is)
+    (subst (λ (told : Option (List ℕ)). LayoutStands l (record { told = told; before = before' l; after = after' l }) c g) (sym same) h)
+
+-- ---- the schedule
+abbrev ReadAs : Option (List ℕ) → List ℕ → Type 0
+ReadAs told bytes = IfSome told (λ text. bytes ≡ take (67108864 + 1) text)
+
+abbrev Reads : (List ℕ → Type 0) → List ℕ → Type 0
+Reads P text = IsShort text × P text
+
+-- the bytes of a told text that is short enough are the text
+pub read_whole : (P : List ℕ → Type 0) (told told' : Option (List ℕ)) (bytes : List ℕ) → IsSome told → told' ≡ told → ReadAs told' bytes → IfSome told (Reads P) → Reads P bytes
+read_whole P None told' bytes some same read h = absurd (true≢false (sym some))
+read_whole P (Some text) told' bytes some same read (short, p) =
+    let as_read : bytes ≡ take (67108864 + 1) text = subst (λ (t : Option (List ℕ)). ReadAs t bytes) same read in
+    subst (Reads P) (sym (as_read ∙ take_all (67108864 + 1) text (omega arith))) (short, p)
+
+-- what is asked on the job's new board
+pub asked_on : (job : Job) (b : Position) (text : List ℕ) (v : Version) (h : List Noted) (fails : List Fail) → IsJob job → b ≡ new_position (parts_job job.layout job.products fails) → fails ≡ job.outcomes.fails → IsTextOf (asked_of job) text v h → IsTextOf (asked job.circuit b.job job.outcomes.given) text v h
+asked_on job b text v h fails kept e same i =
+    subst (λ (j : BoardJob). IsTextOf (asked job.circuit j job.outcomes.given) text v h) (sym (ap (λ (p : Position). p.job) e ∙ same_job job fails kept same)) i
+
+pub outside_err : {A : Type 0} (r : Result A Fault) (f : JobFault) → IsErrAnd r (λ e. e ≡ fault.Job f) → job_faults.IsOutside f → IfErr r IsOutside
+outside_err (Ok a) f is h = tt
+outside_err (Err e) f is h = subst IsOutside (sym is) h

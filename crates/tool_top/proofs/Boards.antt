@@ -1,0 +1,33 @@
+-- A board can be made of every job that is read.
+use Rattle.std.proofs.Common.{◌≡◌, ◌≢◌, ℕ, List, slice_get, slice_index_or, IsTrue, Some, refl, ap, sym, ◌∙◌, subst}
+use Rattle.std.proofs.lemmas.Option.{get_or_from_slice_get}
+use Rattle.pauli_product.specs.declared.Letter.{Letter}
+use Rattle.pauli_product.specs.declared.Letter.TheVariants.{I, X, Y, Z}
+use Rattle.pauli_product.specs.Signed.{Signed}
+use Rattle.source_model.specs.Used.{acts, acts_at}
+use Rattle.job_read.specs.declared.Job.{Job}
+use Rattle.job_read.specs.Kept.{IsJob, HasLetterAt}
+use Rattle.job_read.specs.Stages.{wanted_by}
+use Rattle.tool_top.specs.Carried.{HasBoard, parts_job}
+
+acting : (l : Letter) → l ≢ I → IsTrue (acts l)
+acting I other = absurd (other refl)
+acting X other = refl
+acting Y other = refl
+acting Z other = refl
+
+acts_there : (axis : Signed) (q : ℕ) → HasLetterAt axis q → IsTrue (acts_at axis q)
+acts_there axis q (l, at, other) = subst (λ (m : Letter). IsTrue (acts m)) (sym (get_or_from_slice_get axis.letters q l I at)) (acting l other)
+
+pub job_board : (job : Job) → IsJob job → HasBoard (parts_job job.layout job.products job.outcomes.fails)
+job_board job kept = record {
+  limits = record {
+    qubits = job.circuit.qubits;
+    few_qubits = kept.circuit.well_formed.few_qubits;
+    axes_fit = kept.axes_fit;
+    few_products = kept.few_products;
+    few_fails = kept.few_fails;
+  };
+  open_for = (wanted_by job.circuit, record { used = kept.used; rotations = kept.rotations }, kept.open_for);
+  letters = λ p s at. let h = kept.letters p s at in (h.0, acts_there s.axis h.0 h.1);
+}

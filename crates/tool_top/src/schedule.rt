@@ -1,0 +1,82 @@
+//! Reading a schedule's text against a job.
+
+ghost use Rattle.std.specs.Prelude.{◌≡◌, ℕ, ◌≤◌, List, IfOk, IfErr};
+ghost use Rattle.board_core.specs.declared.Noted.{Noted};
+ghost use Rattle.schedule_text.specs.Text.{Version};
+ghost use Rattle.history_replay.specs.Replay.{IsTextOf};
+ghost use Rattle.job_read.specs.Kept.{IsJob};
+ghost use Rattle.tool_top.specs.Outside.{shelved};
+ghost use Rattle.tool_top.specs.Schedules.{IsShort, asked_of};
+ghost use Rattle.tool_top.specs.Ends.{AcceptsSchedule, IsOutside};
+ghost use Rattle.tool_top.specs.Replayed.{IsReplayed, IsReplayedOn, StopsReading, StopsReplaying};
+
+use crate::board::new_board;
+use crate::fault::Fault;
+use board_core::Board;
+use history_replay::{Verdict, verify};
+use job_read::{Job, read_job};
+use patch_base::{ReadFault, SCHEDULE_BYTES, Shelf, read_text};
+use source_model::Circuit;
+use std::alloc::Global;
+
+/// The names of a job's texts and of a schedule.
+#[derive(Clone, Copy)]
+pub struct Names<'a> {
+    pub circuit: &'a str,
+    pub layout: &'a str,
+    pub outcomes: &'a str,
+    pub schedule: &'a str,
+}
+
+/// A circuit, and a board that has the history of a schedule of it.
+#[derive(Drop)]
+pub struct Replayed {
+    pub circuit: Circuit,
+    pub board: Board,
+}
+
+/// Reads a job, and then its schedule.
+pub fn read_schedule<S: Shelf>(
+    alloc: Global,
+    names: Names<'_>,
+    shelf: &mut S,
+) -> Result<Replayed, Fault>
+    ensures told { (n : List ℕ) → S.tells shelf.new n ≡ S.tells shelf.old n }
+    ensures counts { (n : List ℕ) → S.faults shelf.old n ≤ S.faults shelf.new n }
+    ensures replayed { let r = shelved (S.tells shelf.old) (S.faults shelf.old) (S.faults shelf.new) in
+        IfOk result (IsReplayed r names.entry.circuit.now names.entry.layout.now names.entry.outcomes.now names.entry.schedule.now) }
+    ensures stops { let r = shelved (S.tells shelf.old) (S.faults shelf.old) (S.faults shelf.new) in
+        IfErr result (StopsReading r names.entry.circuit.now names.entry.layout.now names.entry.outcomes.now names.entry.schedule.now) }
+    ensures complete { let r = shelved (S.tells shelf.old) (S.faults shelf.old) (S.faults shelf.new) in
+        AcceptsSchedule r names.entry.circuit.now names.entry.layout.now names.entry.outcomes.now names.entry.schedule.now → IfErr result IsOutside }
+{
+    let job = read_job(alloc, shelf, names.circuit, names.layout, names.outcomes)?;
+    match read_text(alloc, shelf, names.schedule, SCHEDULE_BYTES) {
+        Ok(text) => replay(alloc, job, &text),
+        Err(ReadFault::Failed) => Err(Fault::ScheduleUnread),
+        Err(ReadFault::Memory) => Err(Fault::Memory),
+    }
+}
+
+// Reads the text of a schedule on the new board of a job.
+fn replay(alloc: Global, job: Job, text: &[u8]) -> Result<Replayed, Fault>
+    requires { IsJob job }
+    ensures replayed { IfOk result (IsReplayedOn job text.now) }
+    ensures stops { IfErr result (StopsReplaying job text.now) }
+    ensures complete { (v : Version) (h : List Noted) → IsShort text.now → IsTextOf (asked_of job) text.now v h → IfErr result IsOutside }
+{
+    if text.len() as u64 > SCHEDULE_BYTES {
+        return Err(Fault::ScheduleTooLong);
+    }
+    let Job {
+        circuit,
+        products,
+        layout,
+        outcomes,
+    } = job;
+    let board = new_board(alloc, layout, products, outcomes.fails.as_slice())?;
+    match verify(alloc, board, &circuit, &outcomes, text)? {
+        Verdict::Legal(board) => Ok(Replayed { circuit, board }),
+        Verdict::Illegal { line } => Err(Fault::ScheduleIllegal { line }),
+    }
+}

@@ -1,0 +1,52 @@
+//! The command `slices`: the slices of a schedule, and their pictures.
+
+ghost use Rattle.std.specs.Prelude.{◌≡◌, ℕ, ◌≤◌, List};
+ghost use Rattle.tool_words.specs.Commands as tool;
+ghost use Rattle.tool_top.specs.Outside.{shelved, writing};
+ghost use Rattle.board_core.specs.Position.{past};
+ghost use Rattle.slice_write.specs.Slices.{sliced};
+ghost use Rattle.slice_write.specs.Pictures.{slices_text};
+ghost use Rattle.tool_top.specs.Carried.{WritesText};
+ghost use Rattle.tool_top.specs.Ends.{Accepts, Ends, IsDone};
+
+use crate::fault::Fault;
+use crate::schedule::{Names, read_schedule};
+use board_core::Board;
+use patch_base::{Shelf, Sink};
+use slice_write::{SliceFault, slices, write_slices};
+use std::alloc::Global;
+
+/// Reads a job and a schedule, and writes the schedule's slices.
+pub fn slice_schedule<S: Shelf, O: Sink>(
+    alloc: Global,
+    names: Names<'_>,
+    shelf: &mut S,
+    out: &mut O,
+) -> Result<(), Fault>
+    ensures told { (n : List ℕ) → S.tells shelf.new n ≡ S.tells shelf.old n }
+    ensures counts { (n : List ℕ) → S.faults shelf.old n ≤ S.faults shelf.new n }
+    ensures out_counts { O.faults out.old ≤ O.faults out.new }
+    ensures ends { let r = shelved (S.tells shelf.old) (S.faults shelf.old) (S.faults shelf.new) in
+        let w = writing (O.taken out.old) (O.taken out.new) (O.faults out.old) (O.faults out.new) in
+        Ends r w (tool.slices names.entry.circuit.now names.entry.layout.now names.entry.outcomes.now names.entry.schedule.now) result }
+    ensures complete { let r = shelved (S.tells shelf.old) (S.faults shelf.old) (S.faults shelf.new) in
+        Accepts r (tool.slices names.entry.circuit.now names.entry.layout.now names.entry.outcomes.now names.entry.schedule.now) → IsDone result }
+{
+    let replayed = read_schedule(alloc, names, shelf)?;
+    write_board_slices(alloc, &replayed.board, out)
+}
+
+// Writes the slices of a board's history.
+fn write_board_slices<O: Sink>(alloc: Global, board: &Board, out: &mut O) -> Result<(), Fault>
+    ensures out_counts { O.faults out.old ≤ O.faults out.new }
+    ensures written { let w = writing (O.taken out.old) (O.taken out.new) (O.faults out.old) (O.faults out.new) in
+        WritesText w (slices_text board.now.job.grid (sliced board.now.job (past board.now))) result }
+    ensures complete { IsDone result }
+{
+    let slices = slices(alloc, board)?;
+    match write_slices(alloc, board, &slices, out) {
+        Ok(()) => Ok(()),
+        Err(SliceFault::Failed) => Err(Fault::Unwritten),
+        Err(SliceFault::Memory) => Err(Fault::Memory),
+    }
+}
