@@ -5,3 +5,5 @@ pub mod Corrections
 pub mod Bits
 pub mod Rows
 pub mod Spelling
+pub mod Words
+pub mod Masks

@@ -1,6 +1,7 @@
 -- Signed Pauli products as a sign and a letter for each qubit.
-use Rattle.std.specs.Prelude.{◌≡◌, ℕ, Bool, false, ◌+◌, ◌%◌, ◌==◌, if◌then◌else◌, List, [], ◌∷◌, length}
+use Rattle.std.specs.Prelude.{◌≡◌, ◌≢◌, ℕ, Bool, false, ◌+◌, ◌%◌, ◌==◌, ◌<◌, if◌then◌else◌, List, [], ◌∷◌, length, slice_index_or}
 use Rattle.pauli_product.specs.declared.Letter.{Letter}
+use Rattle.pauli_product.specs.declared.Letter.TheVariants.{I}
 use Rattle.pauli_product.specs.Letters.{letter_product, letter_phase, letters_clash}
 
 -- a sign, which is true for a minus, and the letter of each qubit
@@ -49,3 +50,15 @@ real_product p q = record { sign = phase p q == 2; letters = letters_product p.l
 -- a product on n qubits
 abbrev pub OfLength : ℕ → Signed → Type 0
 OfLength n p = length p.letters ≡ n
+
+-- the letter of a qubit, and I past the last one
+abbrev pub letter_at : Signed → ℕ → Letter
+letter_at p q = slice_index_or p.letters q I
+
+-- the support: the qubits with a letter other than I
+pub record IsInSupport (p : Signed) (q : ℕ) : Type 0 where
+  pub within : q < length p.letters
+  pub other : letter_at p q ≢ I
+
+abbrev pub IsOutside : Signed → ℕ → Type 0
+IsOutside p q = letter_at p q ≡ I

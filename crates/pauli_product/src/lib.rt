@@ -1,15 +1,24 @@
 //! Signed Pauli products.
 #![tactic(auto)]
 
-ghost use Rattle.std.specs.Prelude.{◌≡◌, Bool, ◌+◌, ◌*◌, ◌<◌, ◌≤◌, List, [], ◌∷◌, ◌++◌, length, slice_get, Some, IfOk, IfSome, IsSomeAnd, OnOk, OnErr, flat_map};
-ghost use Rattle.pauli_product.specs.Letters.{letter_product, letter_phase, letters_clash};
-ghost use Rattle.pauli_product.specs.Signed.{Signed, plus, letters_product, letters_phase, clashes, commute, phase};
+ghost use Rattle.std.specs.Prelude.{◌≡◌, ℕ, Bool, ◌+◌, ◌*◌, ◌<◌, ◌≤◌, List, [], ◌∷◌, ◌++◌, length, replicate, slice_get, slice_set, Some, IfOk, IfSome, IfNone, IsSomeAnd, OnOk, OnErr, flat_map, ◌-◌, ◌≢◌, take, vec_len, vec_capacity, slice_index_or};
+ghost use Rattle.pauli_product.specs.declared.Letter.TheVariants.{I};
+ghost use Rattle.pauli_product.specs.Signed.{Signed, plus, IsInSupport, IsOutside, letters_product, letters_phase, clashes, commute, phase};
 ghost use Rattle.pauli_product.specs.Pulls.{quarter, half, negated, conj};
 ghost use Rattle.pauli_product.specs.Spelling.{sign_text, letter_text, product_text, Spells};
+ghost use Rattle.pauli_product.specs.Words.{word_letters};
+ghost use Rattle.pauli_product.specs.Masks.{all_letters, first_letters, IsClearFrom, HoldsQubits};
 
+mod word;
+
+use crate::word::Word;
 use patch_base::Memory;
+use smallvec::SmallVec;
 use std::alloc::Global;
 use std::marker::Model;
+
+// The length of the longest text: a sign and 1,024 letters.
+const MOST_BYTES: usize = 1025;
 
 /// A letter of a Pauli product.
 #[derive(Clone, Copy, Debug, PartialEq, Eq)]
@@ -45,30 +54,6 @@ impl Letter {
             Letter::Z => b'Z',
         }
     }
-
-    fn clashes(self, other: Letter) -> bool
-        ensures { result ≡ letters_clash self other }
-    {
-        self != Letter::I && other != Letter::I && self != other
-    }
-
-    // The letter of the product, and the power of i before it.
-    fn times(self, other: Letter) -> (Letter, u8)
-        ensures letter { result.0 ≡ letter_product self other }
-        ensures power { result.1 ≡ letter_phase self other }
-    {
-        match (self, other) {
-            (Letter::I, _) => (other, 0),
-            (_, Letter::I) => (self, 0),
-            (Letter::X, Letter::Y) => (Letter::Z, 1),
-            (Letter::Y, Letter::Z) => (Letter::X, 1),
-            (Letter::Z, Letter::X) => (Letter::Y, 1),
-            (Letter::Y, Letter::X) => (Letter::Z, 3),
-            (Letter::Z, Letter::Y) => (Letter::X, 3),
-            (Letter::X, Letter::Z) => (Letter::Y, 3),
-            _ => (Letter::I, 0),
-        }
-    }
 }
 
 /// A signed Pauli product: a sign and a letter for each of up to 1,024 qubits.
@@ -77,19 +62,20 @@ impl Letter {
 #[derive(Drop)]
 pub struct Product {
     sign: bool,
-    letters: Vec<Letter>,
+    qubits: u32,
+    // 64 qubits a word, and I past the last qubit.
+    words: SmallVec<Word, 1>,
 }
 
 impl Model for Product {
     ghost use Rattle.pauli_product.specs.Signed.{Signed};
+    ghost use Rattle.pauli_product.specs.Masks.{first_letters, HoldsQubits};
 
     ghost Value = { Signed };
 
-    ghost view = { λ p. record { sign = p.sign; letters = p.letters.items } };
+    ghost view = { λ p. record { sign = p.sign; letters = first_letters p.qubits p.words.items } };
 
-    ghost use Rattle.std.specs.Prelude.{◌≤◌, length};
-
-    ghost invariant = { λ p. length p.letters.items ≤ 1024 };
+    ghost invariant = { λ p. HoldsQubits p.qubits p.words.items };
 }
 
 impl Product {
@@ -98,9 +84,25 @@ impl Product {
         requires { length letters.now ≤ 1024 }
         ensures { IfOk result (λ p. p ≡ record { sign = sign; letters = letters.now }) }
     {
+        let qubits = letters.len() as u32;
+        let mut words = words_of_i(alloc, qubits)?;
+        fill(words.as_mut_slice(), letters);
         Ok(Product {
             sign,
-            letters: Vec::from_slice(alloc, letters)?,
+            qubits,
+            words,
+        })
+    }
+
+    /// I on each of up to 1,024 qubits, with sign +.
+    pub fn identity(alloc: Global, qubits: u32) -> Result<Product, Memory>
+        requires { qubits ≤ 1024 }
+        ensures { IfOk result (λ p. p ≡ plus (replicate qubits I)) }
+    {
+        Ok(Product {
+            sign: false,
+            qubits,
+            words: words_of_i(alloc, qubits)?,
         })
     }
 
@@ -109,7 +111,7 @@ impl Product {
         ensures spelled { IfOk result (λ found. IfSome found (Spells text.now)) }
         ensures exact { IfOk result (λ found. (p : Signed) → Spells text.now p → found ≡ Some p) }
     {
-        if text.len() < 2 || text.len() > 1025 {
+        if text.len() < 2 || text.len() > MOST_BYTES {
             return Ok(None);
         }
         let Some(sign) = sign_of_byte(text[0]) else {
@@ -118,7 +120,7 @@ impl Product {
         let Some(letters) = read_letters(alloc, &text[1..])? else {
             return Ok(None);
         };
-        Ok(Some(Product { sign, letters }))
+        Ok(Some(Product::new(alloc, sign, &letters)?))
     }
 
     /// Appends the text of the product. An error leaves `into` as it was.
@@ -126,11 +128,9 @@ impl Product {
         ensures ok { OnOk result (into.new.items ≡ into.old.items ++ product_text self.now) }
         ensures err { OnErr result (into.new.items ≡ into.old.items) }
     {
-        into.reserve(1 + self.letters.len())?;
+        into.reserve(1 + self.qubits as usize)?;
         into.push_reserved(if self.sign { b'-' } else { b'+' });
-        for letter in &self.letters {
-            into.push_reserved(letter.byte());
-        }
+        print_words(self.words.as_slice(), self.qubits, into);
         Ok(())
     }
 
@@ -138,7 +138,11 @@ impl Product {
     pub fn copy(&self, alloc: Global) -> Result<Product, Memory>
         ensures { IfOk result (λ p. p ≡ self.now) }
     {
-        Product::new(alloc, self.sign, &self.letters)
+        Ok(Product {
+            sign: self.sign,
+            qubits: self.qubits,
+            words: SmallVec::from_slice(alloc, self.words.as_slice())?,
+        })
     }
 
     /// Makes `into`, a product on as many qubits, equal to this one.
@@ -147,7 +151,9 @@ impl Product {
         ensures { into.new ≡ self.now }
     {
         into.sign = self.sign;
-        into.letters.copy_from_slice(&self.letters);
+        into.words
+            .as_mut_slice()
+            .copy_from_slice(self.words.as_slice());
     }
 
     /// Whether the sign is a minus.
@@ -162,7 +168,7 @@ impl Product {
         ensures value { result ≡ length self.now.letters }
         ensures few { result ≤ 1024 }
     {
-        self.letters.len() as u32
+        self.qubits
     }
 
     /// The letter of a qubit.
@@ -170,7 +176,26 @@ impl Product {
         requires { q < length self.now.letters }
         ensures { slice_get self.now.letters q ≡ Some result }
     {
-        self.letters[q as usize]
+        self.words.as_slice()[(q / 64) as usize].letter(q % 64)
+    }
+
+    /// Puts a letter at a qubit.
+    pub fn set_letter(&mut self, q: u32, letter: Letter)
+        requires { q < length self.old.letters }
+        ensures sign { self.new.sign ≡ self.old.sign }
+        ensures letters { self.new.letters ≡ slice_set self.old.letters q letter }
+    {
+        put(self.words.as_mut_slice(), q, letter);
+    }
+
+    /// The first qubit of the support from `from` on: the first whose letter is other than I.
+    pub fn support_from(&self, from: u32) -> Option<u32>
+        ensures found { IfSome result (λ q. IsInSupport self.now q) }
+        ensures after { IfSome result (λ q. from ≤ q) }
+        ensures first { IfSome result (λ q. (k : ℕ) → from ≤ k → k < q → IsOutside self.now k) }
+        ensures none { IfNone result ((k : ℕ) → from ≤ k → IsOutside self.now k) }
+    {
+        first_support(self.words.as_slice(), from)
     }
 
     /// Whether the products commute: they do where they clash on an even number of qubits.
@@ -179,7 +204,7 @@ impl Product {
         requires { length other.now.letters ≡ length self.now.letters }
         ensures { result ≡ commute self.now other.now }
     {
-        clash_count(&self.letters, &other.letters) % 2 == 0
+        clash_count(self.words.as_slice(), other.words.as_slice()) % 2 == 0
     }
 
     /// Multiplies the letters, and leaves the sign +.
@@ -191,7 +216,7 @@ impl Product {
         ensures power { result ≡ phase self.old other.now }
         ensures qubits { length self.new.letters ≡ length self.old.letters }
     {
-        let power = multiply(&mut self.letters, &other.letters);
+        let power = multiply(self.words.as_mut_slice(), other.words.as_slice());
         let signs = 2 * u32::from(self.sign) + 2 * u32::from(other.sign);
         self.sign = false;
         ((power + signs) % 4) as u8
@@ -258,34 +283,117 @@ fn read_letters(alloc: Global, text: &[u8]) -> Result<Option<Vec<Letter>>, Memor
     Ok(Some(letters))
 }
 
+// As many words as so many qubits take, with I at each qubit.
+fn words_of_i(alloc: Global, qubits: u32) -> Result<SmallVec<Word, 1>, Memory>
+    requires { qubits ≤ 1024 }
+    ensures holds { IfOk result (λ words. HoldsQubits qubits words.items) }
+    ensures letters { IfOk result (λ words. first_letters qubits words.items ≡ replicate qubits I) }
+{
+    let count = qubits.div_ceil(64) as usize;
+    Ok(SmallVec::from_elem(alloc, Word::identity(), count)?)
+}
+
+// Puts the letters into words that are as many as they take.
+fn fill(words: &mut [Word], letters: &[Letter])
+    requires { HoldsQubits (length letters.now) words.old }
+    ensures holds { HoldsQubits (length letters.now) words.new }
+    ensures letters { first_letters (length letters.now) words.new ≡ letters.now }
+{
+    for (i, word) in words.iter_mut().enumerate() {
+        let start = 64 * i;
+        let end = letters.len().min(start + 64);
+        *word = pack(&letters[start..end]);
+    }
+}
+
+// The word of up to 64 letters, with I at the qubits that are left.
+fn pack(letters: &[Letter]) -> Word
+    requires { length letters.now ≤ 64 }
+    ensures { word_letters result ≡ letters.now ++ replicate (64 - length letters.now) I }
+{
+    let mut word = Word::identity();
+    for (i, letter) in letters.iter().enumerate() {
+        word = word.with_letter(i as u32, *letter);
+    }
+    word
+}
+
+// Appends the text of the first letters of the words.
+fn print_words(words: &[Word], qubits: u32, into: &mut Vec<u8>)
+    requires { vec_len into.old + qubits ≤ vec_capacity into.old }
+    ensures { into.new.items ≡ into.old.items ++ flat_map letter_text (first_letters qubits words.now) }
+{
+    let mut left = qubits;
+    for word in words {
+        let count = left.min(64);
+        print_letters(*word, count, into);
+        left -= count;
+    }
+}
+
+// Appends the text of the first letters of a word.
+fn print_letters(word: Word, count: u32, into: &mut Vec<u8>)
+    requires few { count ≤ 64 }
+    requires room { vec_len into.old + count ≤ vec_capacity into.old }
+    ensures text { into.new.items ≡ into.old.items ++ flat_map letter_text (take count (word_letters word)) }
+    ensures len { vec_len into.new ≡ vec_len into.old + count }
+    ensures capacity { vec_capacity into.new ≡ vec_capacity into.old }
+{
+    for i in 0..count {
+        into.push_reserved(word.letter(i).byte());
+    }
+}
+
+// Puts a letter at a qubit.
+fn put(words: &mut [Word], q: u32, letter: Letter)
+    requires { q < 64 * length words.old }
+    ensures { all_letters words.new ≡ slice_set (all_letters words.old) q letter }
+{
+    let i = (q / 64) as usize;
+    words[i] = words[i].with_letter(q % 64, letter);
+}
+
+// The first qubit from `from` on whose letter is other than I.
+fn first_support(words: &[Word], from: u32) -> Option<u32>
+    requires { length words.now ≤ 16 }
+    ensures found { IfSome result (λ q. slice_index_or (all_letters words.now) q I ≢ I) }
+    ensures after { IfSome result (λ q. from ≤ q) }
+    ensures first { IfSome result (λ q. (k : ℕ) → from ≤ k → k < q → slice_index_or (all_letters words.now) k I ≡ I) }
+    ensures none { IfNone result (IsClearFrom from (all_letters words.now)) }
+{
+    for i in (from / 64) as usize..words.len() {
+        let start = 64 * i as u32;
+        if let Some(q) = words[i].support_from(from.saturating_sub(start)) {
+            return Some(start + q);
+        }
+    }
+    None
+}
+
 // On how many qubits the letters clash.
-fn clash_count(left: &[Letter], right: &[Letter]) -> u32
+fn clash_count(left: &[Word], right: &[Word]) -> u32
     requires equal { length right.now ≡ length left.now }
-    requires few { length left.now ≤ 1024 }
-    ensures { result ≡ clashes left.now right.now }
+    requires few { length left.now ≤ 16 }
+    ensures { result ≡ clashes (all_letters left.now) (all_letters right.now) }
 {
     let mut count = 0;
-    for (q, letter) in left.iter().enumerate() {
-        if letter.clashes(right[q]) {
-            count += 1;
-        }
+    for (i, word) in left.iter().enumerate() {
+        count += word.clashes(right[i]);
     }
     count
 }
 
 // Multiplies letter by letter, and adds the powers of i.
-fn multiply(left: &mut [Letter], right: &[Letter]) -> u32
+fn multiply(left: &mut [Word], right: &[Word]) -> u32
     requires equal { length right.now ≡ length left.old }
-    requires few { length left.old ≤ 1024 }
-    ensures letters { left.new ≡ letters_product left.old right.now }
-    ensures power { result ≡ letters_phase left.old right.now }
-    ensures small { result ≤ 3 * 1024 }
+    requires few { length left.old ≤ 16 }
+    ensures letters { all_letters left.new ≡ letters_product (all_letters left.old) (all_letters right.now) }
+    ensures power { result ≡ letters_phase (all_letters left.old) (all_letters right.now) }
+    ensures small { result ≤ 192 * 16 }
 {
     let mut sum = 0;
-    for (q, letter) in left.iter_mut().enumerate() {
-        let (product, power) = letter.times(right[q]);
-        *letter = product;
-        sum += u32::from(power);
+    for (i, word) in left.iter_mut().enumerate() {
+        sum += word.times(right[i]);
     }
     sum
 }
@@ -381,6 +489,36 @@ mod tests {
         assert!(rt; most.letter(1023) == Letter::Y);
         long.push(b'I')?;
         assert!(rt; Product::parse(rt.alloc(), &long)?.is_none());
+        Ok(())
+    }
+
+    // A product whose support and whose product with another go over the end of the first word.
+    fn assert_crosses(rt: &impl Abort, alloc: Global, qubits: u32) -> Result<(), Memory>
+        requires within { qubits ≤ 128 }
+        requires across { 64 < qubits }
+    {
+        let last = qubits - 1;
+        let mut product = Product::identity(alloc, qubits)?;
+        product.set_letter(63, Letter::X);
+        product.set_letter(last, Letter::Y);
+        let mut other = Product::identity(alloc, qubits)?;
+        other.set_letter(63, Letter::Z);
+        other.set_letter(last, Letter::Z);
+        assert!(rt; product.support_from(0) == Some(63));
+        assert!(rt; product.support_from(64) == Some(last));
+        assert!(rt; product.support_from(qubits).is_none());
+        // X Z = -i Y, and Y Z = i X.
+        assert!(rt; product.commutes(&other));
+        assert_eq!(rt; product.times(&other), 0);
+        assert!(rt; product.letter(63) == Letter::Y);
+        assert!(rt; product.letter(last) == Letter::X);
+        Ok(())
+    }
+
+    #[test]
+    fn crosses_words(rt: HostRuntime) -> Result<(), Fail> {
+        assert_crosses(&rt, rt.alloc(), 65)?;
+        assert_crosses(&rt, rt.alloc(), 128)?;
         Ok(())
     }
 
