@@ -1,5 +1,5 @@
 -- A product's first letters, with I behind them, and the images of these.
-use Rattle.std.proofs.Common.{◌≡◌, ℕ, zero, suc, ◌+◌, ◌%◌, ◌==◌, ◌<◌, true, false, List, [], ◌∷◌, length, replicate, get_or, set, refl, ap, ap₂, sym, ◌∙◌, arith}
+use Rattle.std.proofs.Common.{◌≡◌, ℕ, zero, suc, ◌+◌, ◌%◌, ◌==◌, ◌<◌, ◌≤◌, true, false, List, [], ◌∷◌, length, replicate, get_or, set, refl, ap, ap₂, sym, ◌∙◌, arith}
 use Rattle.pauli_product.specs.declared.Letter.{Letter}
 use Rattle.pauli_product.specs.declared.Letter.TheVariants.{I, X, Y, Z}
 use Rattle.pauli_product.specs.Letters.{letter_product, letter_phase, letters_clash}
@@ -85,6 +85,17 @@ same_prefix (suc q) [] e = refl
 same_prefix zero (a ∷ as') e = ap (λ (l : Letter). l ∷ replicate (length as') I) (sym e)
 same_prefix (suc q) (a ∷ as') e = ap (λ (ls : List Letter). a ∷ ls) (same_prefix q as' e)
 
+-- letters that are I change nothing
+pub prefix_skips : (a b : ℕ) (ls : List Letter) → a ≤ b → ((k : ℕ) → a ≤ k → k < b → get_or ls k I ≡ I) → prefix a ls ≡ prefix b ls
+prefix_skips zero zero ls h plain = refl
+prefix_skips zero (suc b) [] h plain = refl
+prefix_skips zero (suc b) (l ∷ ls) h plain =
+    ap₂ ◌∷◌ (sym (plain 0 (omega arith) (omega arith))) (prefix_skips zero b ls (omega arith) (λ k from below. plain (suc k) (omega arith) (omega arith)))
+prefix_skips (suc a) zero ls h plain = absurd (omega arith)
+prefix_skips (suc a) (suc b) [] h plain = refl
+prefix_skips (suc a) (suc b) (l ∷ ls) h plain =
+    ap (λ (ls : List Letter). l ∷ ls) (prefix_skips a b ls (omega arith) (λ k from below. plain (suc k) (omega arith) (omega arith)))
+
 -- ---- one letter alone
 pub length_alone : (n q : ℕ) (l : Letter) → OfLength n (alone n q l)
 length_alone zero q l = refl
@@ -112,12 +123,6 @@ x_z_clash n q h = commute_from_odd (alone n q X) (alone n q Z) (ap (λ k. k % 2)
 
 y_is : (n q : ℕ) → q < n → i_times (alone n q X) (alone n q Z) ≡ alone n q Y
 y_is n q h = let power = y_phase n q h in let letters = y_letters n q h in λ i. record { sign = (1 + (0 + 0 + power i) % 4) % 4 == 2; letters = letters i }
-
--- a letter written over I .. I, and I written back
-pub restored : (n q : ℕ) (l : Letter) → set (set (replicate n I) q l) q I ≡ replicate n I
-restored zero q l = refl
-restored (suc n) zero l = refl
-restored (suc n) (suc q) l = ap (λ (ls : List Letter). I ∷ ls) (restored n q l)
 
 -- what has I at a qubit commutes with a letter there
 alone_clashes : (ls : List Letter) (q : ℕ) (l : Letter) → get_or ls q I ≡ I → clashes ls (set (replicate (length ls) I) q l) ≡ 0

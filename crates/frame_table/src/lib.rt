@@ -55,12 +55,11 @@ impl Frame {
         requires { qubits ≤ 1024 }
         ensures { IfOk result (After qubits []) }
     {
-        let letters = plain_letters(alloc, qubits)?;
         Ok(Frame {
             x: letters_alone(alloc, qubits, Letter::X)?,
             z: letters_alone(alloc, qubits, Letter::Z)?,
-            identity: Product::new(alloc, false, &letters)?,
-            scratch: Product::new(alloc, false, &letters)?,
+            identity: Product::identity(alloc, qubits)?,
+            scratch: Product::identity(alloc, qubits)?,
         })
     }
 
@@ -94,17 +93,14 @@ impl Frame {
         ensures corrected { (n : ℕ) (turns : List Turn) → After n turns self.old → After n (turns ++ turns_about (carry turns own.now) quarter half) self.new }
         ensures size { qubits self.new ≡ qubits self.old }
     {
+        if !quarter && !half {
+            return;
+        }
         self.identity.copy_to(&mut self.scratch);
         multiply_images(&self.x, &self.z, own, &mut self.scratch);
         turn_at(&mut self.x, own, &self.scratch, quarter, half);
         turn_at(&mut self.z, own, &self.scratch, quarter, half);
     }
-}
-
-fn plain_letters(alloc: Global, qubits: u32) -> Result<Vec<Letter>, Memory>
-    ensures { IfOk result (λ v. v.items ≡ replicate qubits I) }
-{
-    Ok(vec![in alloc; Letter::I; qubits as usize]?)
 }
 
 // For each qubit the product with the letter there and I elsewhere.
@@ -113,12 +109,11 @@ fn letters_alone(alloc: Global, qubits: u32, letter: Letter) -> Result<Vec<Produ
     ensures images { IfOk result (λ v. CarriesEach qubits letter [] v.items) }
     ensures square { IfOk result (λ v. IsSquare qubits v.items) }
 {
-    let mut letters = plain_letters(alloc, qubits)?;
     let mut products = Vec::with_capacity(alloc, qubits as usize)?;
-    for q in 0..qubits as usize {
-        letters[q] = letter;
-        products.push_reserved(Product::new(alloc, false, &letters)?);
-        letters[q] = Letter::I;
+    for q in 0..qubits {
+        let mut product = Product::identity(alloc, qubits)?;
+        product.set_letter(q, letter);
+        products.push_reserved(product);
     }
     Ok(products)
 }
@@ -150,8 +145,13 @@ fn multiply_images(x: &[Product], z: &[Product], p: &Product, into: &mut Product
     ensures image { (n : ℕ) (turns : List Turn) → After n turns (record { x = x.now; z = z.now }) → into.new ≡ carry turns p.now }
     ensures long { OfLength (length x.now) into.new }
 {
-    for q in 0..p.len() {
+    let mut from = 0;
+    while from < p.len() {
+        let Some(q) = p.support_from(from) else {
+            break;
+        };
         multiply_letter(into, p.letter(q), &x[q as usize], &z[q as usize]);
+        from = q + 1;
     }
     if p.sign() {
         into.negate();
@@ -193,10 +193,13 @@ fn turn_at(images: &mut [Product], own: &Product, axis: &Product, quarter: bool,
     ensures turned { (q : ℕ) (d : Signed) → q < length images.old → slice_index_or own.now.letters q I ≢ I → slice_index_or images.new q d ≡ carry (turns_about axis.now quarter half) (slice_index_or images.old q d) }
     ensures kept { (q : ℕ) (d : Signed) → q < length images.old → slice_index_or own.now.letters q I ≡ I → slice_index_or images.new q d ≡ slice_index_or images.old q d }
 {
-    for q in 0..own.len() {
-        if own.letter(q) != Letter::I {
-            turn(&mut images[q as usize], axis, quarter, half);
-        }
+    let mut from = 0;
+    while from < own.len() {
+        let Some(q) = own.support_from(from) else {
+            break;
+        };
+        turn(&mut images[q as usize], axis, quarter, half);
+        from = q + 1;
     }
 }
 
