@@ -2,7 +2,6 @@
 
 ghost use Rattle.std.specs.Prelude.{◌≡◌, ℕ, ◌+◌, ◌-◌, ◌∷◌, ◌++◌, ◌<◌, ◌==◌, List, ◌≤◌, ◌^◌, [], length, replicate, slice_get, slice_set, true, false, All, Some, None, IfOk, OnOk, OnErr, MatchOption};
 ghost use Rattle.pauli_product.specs.Signed.{OfLength};
-ghost use Rattle.pauli_product.specs.declared.Letter.TheVariants.{I};
 ghost use Rattle.board_core.specs.Laws.{ProductsOfLength};
 ghost use Rattle.pauli_product.specs.Pulls.{carry};
 ghost use Rattle.source_model.specs.declared.Kind.TheVariants.{Measure};
@@ -39,7 +38,7 @@ use frame_table::Frame;
 use magic_pool::{Fail, Pool, StepRefused, Stepped};
 use patch_base::Memory;
 use patch_layout::Layout;
-use pauli_product::{Letter, Product};
+use pauli_product::Product;
 use source_model::{Given, Kind, Static};
 use std::alloc::Global;
 use std::marker::Model;
@@ -93,7 +92,7 @@ impl Ledger {
             holders: no_holders(alloc, layout.size() as usize)?,
             bits: no_bits(alloc, bit_count(products))?,
             pool,
-            scratch: identity(alloc, qubits)?,
+            scratch: Product::identity(alloc, qubits)?,
         })
     }
 
@@ -346,15 +345,6 @@ fn qubits_of(products: &[Static]) -> u32
         Some(product) => product.axis.len(),
         None => 0,
     }
-}
-
-/// The product of letters I.
-fn identity(alloc: Global, qubits: u32) -> Result<Product, Memory>
-    requires { qubits ≤ 1024 }
-    ensures { IfOk result (OfLength qubits) }
-{
-    let letters = vec![in alloc; Letter::I; qubits as usize]?;
-    Product::new(alloc, false, &letters)
 }
 
 /// The places of products without entries.

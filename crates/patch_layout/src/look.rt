@@ -5,7 +5,7 @@ ghost use Rattle.patch_layout.specs.Look.{identity};
 
 use crate::layout::Layout;
 use patch_base::Memory;
-use pauli_product::{Letter, Product};
+use pauli_product::Product;
 use std::alloc::Global;
 use std::marker::Model;
 
@@ -93,8 +93,6 @@ impl Look {
         ensures first { IfOk result (λ look. (look.product ≡ 0) × (look.length ≡ 0) × (look.rotation ≡ false)) }
         ensures unready { IfOk result (λ look. look.ready ≡ replicate 16 0) }
     {
-        let letters = vec![in alloc; Letter::I; qubits as usize]?;
-        let axis = Product::new(alloc, false, &letters)?;
         let held = vec![in alloc; None; layout.size() as usize]?;
         Ok(Look {
             product: 0,
@@ -102,7 +100,7 @@ impl Look {
             rotation: false,
             taken: None,
             waits: None,
-            axis,
+            axis: Product::identity(alloc, qubits)?,
             held: HeldList::of(held),
             ready: [0; 16],
         })

@@ -26,3 +26,8 @@ returns c =
     IfOk-weaker c.new.result _ (λ (b : Position). ProductsOfLength 2 b.job.products)
     (λ b e. subst (λ (x : Position). ProductsOfLength 2 x.job.products) (sym e) (subst (ProductsOfLength 2) (sym c.in_ok-products.ensures) (three_long c.args.first c.args.second c.args.third c.requires.first c.requires.second c.requires.third)))
     c.new.ensures.new
+
+pub order_of-requires-clause-qubits : goal.order_of-requires-clause-qubits
+order_of-requires-clause-qubits c =
+    let long = three_long c.args.first c.args.second c.args.third c.requires.first c.requires.second c.requires.third in
+    (2, subst (ProductsOfLength 2) (sym c.deref.ensures.value) (subst (ProductsOfLength 2) (sym c.in_ok-products.ensures) long))
