@@ -1,11 +1,11 @@
 -- The circuit of a product list keeps the conditions of every call that takes a circuit.
-use Rattle.std.proofs.Common.{◌≡◌, ◌≢◌, ℕ, suc, ◌+◌, ◌≤◌, ◌==◌, ◌&&◌, ◌||◌, nat_lt, nat_le, not, Bool, true, false, IsTrue, List, [], ◌∷◌, ◌++◌, length, Option, Some, None, Result, Ok, Err, All, refl, sym, ◌∙◌, ap, subst, arith, inl, inr, if◌then◌else◌, is_some, add-zero, codes, drop, IfOk, ◌<◌}
+use Rattle.std.proofs.Common.{◌≡◌, ◌≢◌, ℕ, suc, ◌+◌, ◌≤◌, ◌==◌, ◌&&◌, ◌||◌, nat_lt, nat_le, not, Bool, true, false, IsTrue, List, [], ◌∷◌, ◌++◌, length, Option, Some, None, Result, Ok, Err, All, refl, sym, ◌∙◌, ap, subst, arith, inl, inr, if◌then◌else◌, is_some, add-zero, codes, decimal, drop, IfOk, ◌<◌, ◌^◌}
 use Rattle.std.specs.Prelude.{Any, map, slice_index_or}
 use Rattle.std.specs.List.{list_all, list_any, AllByRecursion as ByRecursion}
 use Rattle.std.specs.Str.{bytes_eq}
-use Rattle.std.proofs.lemmas.Bool.{and_parts, leb-false, ltb-false, eqb-true, not-false, or_parts}
+use Rattle.std.proofs.lemmas.Bool.{and_parts, leb-false, ltb-false, ltb-true, eqb-true, eqb-false, not-false, or_parts}
 use Rattle.std.proofs.lemmas.List.{length-append}
-use Rattle.std.proofs.lemmas.List.Sums.{sum_by-append, sum_by-cons}
+use Rattle.std.proofs.lemmas.List.Sums.{sum_by-cons}
 use Rattle.std.proofs.lemmas.List.Elements.{All-nil, All-cons, All-head, All-tail, All-append, All-from_recursion}
 use Rattle.pauli_product.specs.declared.Letter.TheVariants.{I, X, Y, Z}
 use Rattle.pauli_product.specs.Signed.{Signed, OfLength}
@@ -20,6 +20,9 @@ use Rattle.patch_base.specs.Names.{IsName, is_name, is_word_byte, is_keyword, be
 use Rattle.rotation_list.specs.declared.line.Form.{Form}
 use Rattle.rotation_list.proofs.Ruling.{at_ok}
 use Rattle.rotation_list.specs.Items.{HasLetter}
+use Rattle.rotation_list.proofs.Declared.{AreDeclared, IsNext, declared_more}
+use Rattle.rotation_list.proofs.Listable.{HasSmallValue, IsListable}
+use Rattle.rotation_list.specs.declared.line.Form.TheVariants as forms
 use Rattle.source_model.specs.Used.{acts, acts_at}
 use Rattle.source_model.specs.declared.Angle.TheVariants.{Eighth, Quarter, Half}
 use Rattle.source_model.specs.declared.Circuit.{Circuit}
@@ -28,7 +31,7 @@ use Rattle.source_model.specs.declared.Item.TheVariants as item
 use Rattle.source_model.specs.declared.Register.{Register}
 use Rattle.source_model.specs.SourceRun.{axis_of}
 use Rattle.source_model.specs.Circuits.{BitsBelow, FirstsRunOn, HiddenInOrder, IsOneLine, ReadsWhole, WellFormed, bits_in, kinds}
-use Rattle.rotation_list.specs.ListText.{Ending, rotation, measurement, hidden, settled, reset, named, unless, in_register, item_for, hidden_after, with_item, with_product, with_register, with_line, Line, register, product, value_of, is_letter, letter_of, is_axis, axis_of as axis_spelled, form_of, name_and_number, ending_of, product_of, formed, line_of, at_line, is_passed, with_form, with_text, and_then, with_lines, Header, header_of, version_of, number_alone, with_version, few_qubits, bare, list_of, list_circuit}
+use Rattle.rotation_list.specs.ListText.{Ending, rotation, measurement, hidden, settled, reset, named, unless, in_register, item_for, hidden_after, with_item, with_product, with_register, with_line, Line, register, product, value_of, is_letter, letter_of, is_axis, axis_of as axis_spelled, form_of, name_and_number, at_end, ending_of, product_of, formed, line_of, at_line, is_passed, with_form, with_text, and_then, with_lines, Header, header_of, version_of, number_alone, with_version, few_qubits, bare, list_of, list_circuit}
 
 other_byte : (f : ℕ → Bool) (b n : ℕ) → IsTrue (f b) → f n ≡ false → b ≢ n
 other_byte f b n h fails e = let g = ap f e in cc
@@ -44,9 +47,6 @@ IsOneLine-name : (w : List ℕ) → IsName w → IsOneLine w
 unfolding is_name
 IsOneLine-name w h =
     IsOneLine-bytes is_word_byte refl w (and_parts (begins_as_name w) (list_all is_word_byte w) (and_parts (begins_as_name w && list_all is_word_byte w) (not (is_keyword w)) h).0).1
-
-bits_more : (rs : List Register) (r : Register) → bits_in (rs ++ r ∷ []) ≡ bits_in rs + r.size
-bits_more rs r = sum_by-append (λ x. x.size) rs (r ∷ []) ∙ ap (λ n. bits_in rs + n) (sum_by-cons (λ x. x.size) r [] ∙ add-zero r.size)
 
 firsts_more : (before : ℕ) (rs : List Register) (r : Register) → FirstsRunOn before rs → r.first ≡ before + bits_in rs → FirstsRunOn before (rs ++ r ∷ [])
 firsts_more before [] r h e = (e ∙ add-zero before, tt)
@@ -194,11 +194,13 @@ register_formed c d name size h one e =
     })
 
 -- ---- products and axes
--- a circuit that is read from a list so far: few products, about axes that have a letter other than I
+-- a circuit that is read from a list so far: few products, about axes that have a letter other than I, and registers that a list declares
 pub record Kept (c : Circuit) : Type 0 where
   pub formed : WellFormed c
   pub few : length c.items ≤ 16384
   pub lettered : All HasLetter c.items
+  pub declared : AreDeclared [] c.registers
+  pub small : All HasSmallValue c.items
 
 axis_kept : (c : Circuit) (axis : Signed) (ending : Ending) (i : Item) → item_for c axis ending ≡ Ok i → axis ≡ axis_of i
 unfolding item_for
@@ -220,21 +222,65 @@ axis_kept c axis (reset number) i e = ap axis_of (same_ok _ _ _ refl (unless_ok 
 HasOther : Signed → Type 0
 HasOther axis = (q : ℕ) × IsTrue (acts_at axis q)
 
-item_kept : (c d : Circuit) (axis : Signed) (ending : Ending) (r : Result Item FaultKind) → length c.items < 16384 → All HasLetter c.items → HasOther axis → ((i : Item) → r ≡ Ok i → axis ≡ axis_of i) → with_item c ending r ≡ Ok d → (length d.items ≤ 16384) × All HasLetter d.items
+-- the value behind an axis
+SmallEnding : Ending → Type 0
+SmallEnding rotation = Unit {0}
+SmallEnding (measurement name index) = Unit {0}
+SmallEnding hidden = Unit {0}
+SmallEnding (settled name value) = value < 2 ^ 32
+SmallEnding (reset number) = Unit {0}
+
+value_kept : (c : Circuit) (axis : Signed) (ending : Ending) (i : Item) → SmallEnding ending → item_for c axis ending ≡ Ok i → HasSmallValue i
+unfolding item_for SmallEnding
+value_kept c axis rotation i h e = subst HasSmallValue (same_ok _ _ _ refl e) tt
+value_kept c axis (measurement name index) i h e = in_named (named c.registers name) e
+  where
+    in_named : (o : Option Register) → in_register o (λ r. unless (nat_le r.size index) Index (Ok (item.Measure axis (r.first + index)))) ≡ Ok i → HasSmallValue i
+    in_named None f = absurd (cc)
+    in_named (Some r) f = subst HasSmallValue (same_ok _ _ _ refl (unless_ok (nat_le r.size index) Index (Ok (item.Measure axis (r.first + index))) i f).1) tt
+value_kept c axis hidden i h e = subst HasSmallValue (same_ok _ _ _ refl e) tt
+value_kept c axis (settled name value) i h e = in_named (named c.registers name) e
+  where
+    in_named : (o : Option Register) → in_register o (λ r. Ok (item.If axis r.first r.size value)) ≡ Ok i → HasSmallValue i
+    in_named None f = absurd (cc)
+    in_named (Some r) f = subst HasSmallValue (same_ok _ _ _ refl f) h
+value_kept c axis (reset number) i h e = subst HasSmallValue (same_ok _ _ _ refl (unless_ok (nat_le c.hidden number) Index (Ok (item.If axis (bits_in c.registers + number) 1 1)) i e).1) (omega arith)
+
+-- what an item is, by the axis and what stands behind it
+record IsKeptItem (axis : Signed) (i : Item) : Type 0 where
+  same : axis ≡ axis_of i
+  small : HasSmallValue i
+
+-- what one more item keeps
+record HasMore (c d : Circuit) : Type 0 where
+  few : length d.items ≤ 16384
+  lettered : All HasLetter d.items
+  declared : AreDeclared [] d.registers
+  small : All HasSmallValue d.items
+
+item_kept : (c d : Circuit) (axis : Signed) (ending : Ending) (r : Result Item FaultKind) → length c.items < 16384 → Kept c → HasOther axis → ((i : Item) → r ≡ Ok i → IsKeptItem axis i) → with_item c ending r ≡ Ok d → HasMore c d
 unfolding HasOther
 item_kept c d axis ending (Ok i) few h other same e =
     let made : Circuit = record c { items = c.items ++ i ∷ []; hidden = hidden_after c.hidden ending } in
     let is : made ≡ d = same_ok _ _ _ refl e in
     let P : Signed → Type 0 = λ a. (q : ℕ) × IsTrue (acts_at a q) in
-    let Q : Circuit → Type 0 = λ x. (length x.items ≤ 16384) × All HasLetter x.items in
     let more = length-append c.items (i ∷ []) in
-    subst Q is (omega arith, all_more HasLetter c.items i h (subst P (same i refl) other))
+    subst (HasMore c) is (record {
+      few = omega arith;
+      lettered = all_more HasLetter c.items i h.lettered (subst P (same i refl).same other);
+      declared = h.declared;
+      small = all_more HasSmallValue c.items i h.small (same i refl).small;
+    })
 item_kept c d axis ending (Err kind) few h other same e = absurd (cc)
 
 -- ---- lines and texts
 pub HasName : Line → Type 0
 HasName (register name size) = IsTrue (is_name name)
-HasName (product axis ending) = HasOther axis
+HasName (product axis ending) = HasOther axis × SmallEnding ending
+
+no_register : (o : Option Register) → is_some o ≡ false → o ≡ None
+no_register None e = refl
+no_register (Some r) e = absurd (cc)
 
 line_formed : (c d : Circuit) (l : Line) → Kept c → HasName l → with_line c l ≡ Ok d → Kept d
 unfolding with_line with_product with_register HasName
@@ -246,14 +292,37 @@ line_formed c d (register name size) h n e =
     let made : Circuit = record c { registers = c.registers ++ r ∷ [] } in
     let g = unless_ok (is_some (named c.registers name)) Declared (Ok made) d f.1 in
     let is : made ≡ d = same_ok _ _ _ refl g.1 in
+    let limits = or_parts (nat_le 64 (length c.registers)) (nat_lt 16384 (bits_in c.registers + size)) b.0 in
+    let next : IsNext c.registers r = record {
+      name = n;
+      few = leb-false 64 (length c.registers) limits.0;
+      bits = ltb-false 16384 (bits_in c.registers + size) limits.1;
+      some = (let other = eqb-false size 0 f.0 in omega arith);
+      apart = no_register (named c.registers name) g.0;
+      first = refl;
+    } in
     let P : Circuit → Type 0 = λ x. length x.items ≤ 16384 in
     let Q : Circuit → Type 0 = λ x. All HasLetter x.items in
-    record { formed = register_formed c d name size h.formed (IsOneLine-name name n) e; few = subst P is h.few; lettered = subst Q is h.lettered }
+    let R : Circuit → Type 0 = λ x. AreDeclared [] x.registers in
+    let S : Circuit → Type 0 = λ x. All HasSmallValue x.items in
+    record {
+      formed = register_formed c d name size h.formed (IsOneLine-name name n) e;
+      few = subst P is h.few;
+      lettered = subst Q is h.lettered;
+      declared = subst R is (declared_more [] c.registers r h.declared next);
+      small = subst S is h.small;
+    }
 line_formed c d (product axis ending) h n e =
     let a = unless_ok (nat_le 16384 (length c.items)) TooMany _ d e in
     let b = unless_ok (not (length axis.letters == c.qubits)) Sizes _ d a.1 in
-    let kept = item_kept c d axis ending (item_for c axis ending) (leb-false 16384 (length c.items) a.0) h.lettered n (λ i f. axis_kept c axis ending i f) b.1 in
-    record { formed = product_formed c d axis ending h.formed (eqb-true (length axis.letters) c.qubits (not-false (length axis.letters == c.qubits) b.0)) b.1; few = kept.0; lettered = kept.1 }
+    let kept = item_kept c d axis ending (item_for c axis ending) (leb-false 16384 (length c.items) a.0) h n.0 (λ i f. record { same = axis_kept c axis ending i f; small = value_kept c axis ending i n.1 f }) b.1 in
+    record {
+      formed = product_formed c d axis ending h.formed (eqb-true (length axis.letters) c.qubits (not-false (length axis.letters == c.qubits) b.0)) b.1;
+      few = kept.few;
+      lettered = kept.lettered;
+      declared = kept.declared;
+      small = kept.small;
+    }
 
 -- the letters of a text, one of which isn't I
 letter_acts : (bs : List ℕ) → IsTrue (list_all is_letter bs) → IsTrue (list_any (λ c. not (c == 73)) bs) → (q : ℕ) × IsTrue (acts (slice_index_or (map letter_of bs) q I))
@@ -305,15 +374,50 @@ unfolding HasName
 register_named None l h e = absurd (cc)
 register_named (Some p) l h e = subst HasName (some_same _ _ _ refl e) (h p refl)
 
+-- ---- values
+
+pub word_small : (v : List ℕ) → is_whole v ≡ true → value_of v < 2 ^ 32
+unfolding is_whole
+word_small v h = let p = and_parts (nat_lt (value_of v) 4294967296) (bytes_eq v (decimal (value_of v))) h in let l = ltb-true (value_of v) 4294967296 p.0 in omega arith
+
+pair_small : (ws : List (List ℕ)) (p : List ℕ × ℕ) → name_and_number ws ≡ Some p → p.1 < 2 ^ 32
+unfolding name_and_number
+pair_small [] p e = absurd (cc)
+pair_small (w ∷ []) p e = absurd (cc)
+pair_small (w ∷ v ∷ []) p e = by_tests (is_name w) (is_whole v) refl e
+  where
+    by_tests : (a b : Bool) → is_whole v ≡ b → (if a && b then Some (w, value_of v) else None) ≡ Some p → p.1 < 2 ^ 32
+    by_tests true true d f = let same : (w, value_of v) ≡ p = some_same _ _ _ refl f in let P : (List ℕ × ℕ) → Type 0 = λ q. q.1 < 2 ^ 32 in subst P same (word_small v d)
+    by_tests true false d f = absurd (cc)
+    by_tests false b d f = absurd (cc)
+pair_small (w ∷ v ∷ u ∷ us) p e = absurd (cc)
+
+at_end_small : (ws : List (List ℕ)) (e x : Ending) → SmallEnding e → at_end ws e ≡ Some x → SmallEnding x
+unfolding at_end
+at_end_small [] e x h f = subst SmallEnding (some_same _ _ _ refl f) h
+at_end_small (w ∷ ws) e x h f = absurd (cc)
+
+mapped_small : {P : Type 0} (g : P → Ending) (o : Option P) (x : Ending) → ((p : P) → o ≡ Some p → SmallEnding (g p)) → option_map g o ≡ Some x → SmallEnding x
+mapped_small g None x h e = absurd (cc)
+mapped_small g (Some p) x h e = subst SmallEnding (some_same _ _ _ refl e) (h p refl)
+
+ending_small : (f : Form) (ws : List (List ℕ)) (x : Ending) → ending_of f ws ≡ Some x → SmallEnding x
+unfolding ending_of SmallEnding
+ending_small forms.Rotation ws x e = at_end_small ws rotation x tt e
+ending_small forms.Measurement ws x e = mapped_small (λ p. measurement p.0 p.1) (name_and_number ws) x (λ p d. tt) e
+ending_small forms.Hidden ws x e = at_end_small ws hidden x tt e
+ending_small forms.Settled ws x e = mapped_small (λ p. settled p.0 p.1) (name_and_number ws) x (λ p d. pair_small ws p d) e
+ending_small forms.Reset ws x e = mapped_small reset (number_alone ws) x (λ p d. tt) e
+
 product_named : (f : Form) (ws : List (List ℕ)) (l : Line) → product_of f ws ≡ Some l → HasName l
 unfolding product_of HasName
 product_named f [] l e = absurd (cc)
-product_named f (w ∷ ws) l e = go (is_axis w) (ending_of f ws) refl e
+product_named f (w ∷ ws) l e = go (is_axis w) (ending_of f ws) refl refl e
   where
-    go : (b : Bool) (o : Option Ending) → is_axis w ≡ b → (if b then option_map (product (axis_spelled w)) o else None) ≡ Some l → HasName l
-    go true (Some x) d e = subst HasName (some_same _ _ _ refl e) (axis_other w d)
-    go true None d e = absurd (cc)
-    go false o d e = absurd (cc)
+    go : (b : Bool) (o : Option Ending) → is_axis w ≡ b → ending_of f ws ≡ o → (if b then option_map (product (axis_spelled w)) o else None) ≡ Some l → HasName l
+    go true (Some x) d s e = subst HasName (some_same _ _ _ refl e) (axis_other w d, ending_small f ws x s)
+    go true None d s e = absurd (cc)
+    go false o d s e = absurd (cc)
 
 line_named : (two : Bool) (ws : List (List ℕ)) (l : Line) → line_of two ws ≡ Some l → HasName l
 unfolding line_of formed
@@ -377,6 +481,8 @@ bare_formed n few = record {
   };
   few = omega arith;
   lettered = All-nil HasLetter;
+  declared = tt;
+  small = All-nil HasSmallValue;
 }
 
 header_step : (r : Result Header CircuitFault) (d : Circuit) (texts : List (List ℕ)) → ((x : Header) → r ≡ Ok x → x.qubits ≤ 1024) → and_then r (λ h. with_lines h.two 2 (bare h.qubits) texts) ≡ Ok d → Kept d
@@ -416,3 +522,11 @@ given_few text (Err e) h = tt
 pub given_lettered : (text : List ℕ) (r : Result Circuit CircuitFault) → Gives (λ c. c) r (list_circuit text) → IfOk r (λ c. All HasLetter c.items)
 given_lettered text (Ok c) h = (circuit_formed text c h).lettered
 given_lettered text (Err e) h = tt
+
+-- ---- what a list's circuit has
+pub list_listable : (text : List ℕ) (d : Circuit) → list_circuit text ≡ Ok d → IsListable d
+list_listable text d e =
+    let h = circuit_formed text d e in
+    let few = h.few in
+    let fewer = kinds_few d.items in
+    record { formed = h.formed; few = omega arith; lettered = h.lettered; declared = h.declared; small = h.small }

@@ -38,7 +38,7 @@ use Rattle.rotation_list.proofs.Formed.{IsOneLine-bytes}
 
 -- ---- words have bytes of words alone
 
-abbrev WordBytes : TokenKind → List ℕ → Type 0
+abbrev pub WordBytes : TokenKind → List ℕ → Type 0
 WordBytes kinds.Word bs = list_all is_word_byte bs ≡ true
 WordBytes kinds.Whole bs = Unit {0}
 WordBytes kinds.Real bs = Unit {0}
@@ -103,10 +103,10 @@ step turns at line b bs = by_feed (b == 10) refl
     by_feed true e = skips 1 (line + 1) (rw (e, tokens_from, head_of) refl)
     by_feed false e = by_blank e (is_blank b) refl
 
-abbrev IsWordy : List ℕ → Token → Type 0
+abbrev pub IsWordy : List ℕ → Token → Type 0
 IsWordy text t = WordBytes t.kind (slice_range text t.start t.end)
 
-abbrev AreWordy : List ℕ → List Token → Type 0
+abbrev pub AreWordy : List ℕ → List Token → Type 0
 AreWordy text ts = (k : ℕ) (t : Token) → slice_get ts k ≡ Some t → IsWordy text t
 
 push_wordy : (text : List ℕ) (u : Token) (us : List Token) → IsWordy text u → AreWordy text us → AreWordy text (u ∷ us)
@@ -145,7 +145,7 @@ wordy_from text zero at line bs ts d e = no_tokens text ts e
 wordy_from text (suc turns) at line [] ts d e = no_tokens text ts e
 wordy_from text (suc turns) at line (b ∷ bs) ts d e = after_step text turns at line (b ∷ bs) (tokens_from (suc turns) at line (b ∷ bs)) ts d (wordy_from text turns) (step turns at line b bs) e
 
-wordy : (text : List ℕ) (ts : List Token) → tokens_of text ≡ Ok ts → AreWordy text ts
+pub wordy : (text : List ℕ) (ts : List Token) → tokens_of text ≡ Ok ts → AreWordy text ts
 unfolding tokens_of
 wordy text ts e = by_length (nat_lt 4194304 (length text)) e
   where
@@ -155,14 +155,14 @@ wordy text ts e = by_length (nat_lt 4194304 (length text)) e
 
 -- ---- a name is a word
 
-abbrev NoName : Terminal → Type 0
+abbrev pub NoName : Terminal → Type 0
 NoName t = fits t terms.Name ≡ false
 
-neither : (b : Bool) (x y : Terminal) → NoName x → NoName y → NoName (cond b x y)
+pub neither : (b : Bool) (x y : Terminal) → NoName x → NoName y → NoName (cond b x y)
 neither true x y p q = p
 neither false x y p q = q
 
-symbol_nameless : (bs : List ℕ) → NoName (symbol_terminal bs)
+pub symbol_nameless : (bs : List ℕ) → NoName (symbol_terminal bs)
 unfolding symbol_terminal
 symbol_nameless bs =
     neither (bytes_eq bs (codes ";")) terms.Semicolon _ refl
@@ -176,7 +176,7 @@ symbol_nameless bs =
     (neither (bytes_eq bs (codes "->")) terms.Arrow _ refl
     (neither (bytes_eq bs (codes "==")) terms.Equals terms.Other refl refl)))))))))
 
-contradicted : {X : Type 0} (b : Bool) → b ≡ false → b ≡ true → X
+pub contradicted : {X : Type 0} (b : Bool) → b ≡ false → b ≡ true → X
 contradicted b d e = absurd (let t : true ≡ false = sym e ∙ d in cc)
 
 name_bytes : (included : Bool) (kind : TokenKind) (bs : List ℕ) → fits (kind_terminal included kind bs) terms.Name ≡ true → WordBytes kind bs → list_all is_word_byte bs ≡ true
@@ -189,7 +189,7 @@ name_bytes included kinds.Symbol bs e w = contradicted (fits (symbol_terminal bs
 
 -- ---- registers
 
-token_of : {X Y : Type 0} (f : X → Y) (xs : List X) (k : ℕ) (y : Y) → slice_get (map f xs) k ≡ Some y → (x : X) × (slice_get xs k ≡ Some x) × (f x ≡ y)
+pub token_of : {X Y : Type 0} (f : X → Y) (xs : List X) (k : ℕ) (y : Y) → slice_get (map f xs) k ≡ Some y → (x : X) × (slice_get xs k ≡ Some x) × (f x ≡ y)
 token_of f [] k y e = absurd (cc)
 token_of f (x ∷ xs) zero y e = (x, refl, cc)
 token_of f (x ∷ xs) (suc k) y e = token_of f xs k y e
@@ -199,14 +199,14 @@ unfolding is_word_byte starts_word is_digit
 no_feed = refl
 
 -- each token stands in the text, and words have bytes of words alone
-record AreRead (x : Lexed) : Type 0 where
-  placed : (k : ℕ) (t : Token) → slice_get x.tokens k ≡ Some t → IsPlaced x.text t
-  wordy : AreWordy x.text x.tokens
+pub record AreRead (x : Lexed) : Type 0 where
+  pub placed : (k : ℕ) (t : Token) → slice_get x.tokens k ≡ Some t → IsPlaced x.text t
+  pub wordy : AreWordy x.text x.tokens
 
-start_is : (x : Lexed) (name : ℕ) (t : Token) → slice_get x.tokens name ≡ Some t → start_of x name ≡ t.start
+pub start_is : (x : Lexed) (name : ℕ) (t : Token) → slice_get x.tokens name ≡ Some t → start_of x name ≡ t.start
 start_is x name t e = ap (λ (o : Option Token). elim o [ None ↦ 0 | Some u ↦ u.start ]) e
 
-end_is : (x : Lexed) (name : ℕ) (t : Token) → slice_get x.tokens name ≡ Some t → end_of x name ≡ t.end
+pub end_is : (x : Lexed) (name : ℕ) (t : Token) → slice_get x.tokens name ≡ Some t → end_of x name ≡ t.end
 end_is x name t e = ap (λ (o : Option Token). elim o [ None ↦ 0 | Some u ↦ u.end ]) e
 
 named_by : (text : List ℕ) (d : Declared) (t : Token) → d.start ≡ t.start → d.end ≡ t.end → IsPlaced text t → IsTrue (list_all is_word_byte (slice_range text t.start t.end)) → IsNamed text d
@@ -229,21 +229,21 @@ named_at x included name first size read stands =
     let fit : fits (terminal_of included x.text found.0) terms.Name ≡ true = subst (λ u. fits u terms.Name ≡ true) (sym found.2) stands.2 in
     named_by x.text (declared_at x name first size) found.0 (start_is x name found.0 found.1) (end_is x name found.0 found.1) (read.placed name found.0 found.1) (spelled_bytes x.text included found.0 fit (read.wordy name found.0 found.1))
 
-behind_here : (f : Option Stop) (fs : List (Option Stop)) → first_fault (f ∷ fs) ≡ None → f ≡ None
+pub behind_here : (f : Option Stop) (fs : List (Option Stop)) → first_fault (f ∷ fs) ≡ None → f ≡ None
 unfolding first_fault
 behind_here None fs e = refl
 behind_here (Some f) fs e = e
 
-behind_rest : (f : Option Stop) (fs : List (Option Stop)) → first_fault (f ∷ fs) ≡ None → first_fault fs ≡ None
+pub behind_rest : (f : Option Stop) (fs : List (Option Stop)) → first_fault (f ∷ fs) ≡ None → first_fault fs ≡ None
 unfolding first_fault
 behind_rest None fs e = e
 behind_rest (Some f) fs e = absurd (cc)
 
-unbroken : (kind : FaultKind) (b : Bool) (at : ℕ) → broken kind b at ≡ None → b ≡ false
+pub unbroken : (kind : FaultKind) (b : Bool) (at : ℕ) → broken kind b at ≡ None → b ≡ false
 unbroken kind true at e = absurd (cc)
 unbroken kind false at e = refl
 
-few_before : (n : ℕ) (other : Bool) → (nat_le 64 n || other) ≡ false → n < 64
+pub few_before : (n : ℕ) (other : Bool) → (nat_le 64 n || other) ≡ false → n < 64
 few_before n other e = by_test (nat_le 64 n) refl e
   where
     by_test : (b : Bool) → nat_le 64 n ≡ b → (b || other) ≡ false → n < 64
@@ -277,7 +277,7 @@ behind_named x k at end (sentences.Measure from to) read h e spelled = same_name
 behind_named x k at end (sentences.Barrier args) read h e spelled = same_names x.text k.tree (behind x k at (sentences.Barrier args)).tree refl h
 behind_named x k at end (sentences.Reset a) read h e spelled = same_names x.text k.tree (behind x k at (sentences.Reset a)).tree refl h
 
-unless_ok : (o : Option Stop) (k next : Known) → unless o k ≡ Ok next → (o ≡ None) × (k ≡ next)
+pub unless_ok : (o : Option Stop) (k next : Known) → unless o k ≡ Ok next → (o ≡ None) × (k ≡ next)
 unless_ok None k next e = (refl, cc)
 unless_ok (Some stop) k next e = absurd (cc)
 

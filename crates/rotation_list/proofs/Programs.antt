@@ -32,6 +32,8 @@ use Rattle.qasm_expand.specs.Sound.{members, AreNumbered, IsRegister, IsSound, i
 use Rattle.qasm_expand.specs.Placed.{IsPlaced}
 use Rattle.qasm_expand.specs.Limits as limits
 use Rattle.qasm_expand.specs.Limits.{gate_products, if_products, products, product_count, is_past, line_of, passing, passing_from}
+use Rattle.rotation_list.proofs.Declared.{IsOne}
+use Rattle.rotation_list.proofs.Each.{both_parts}
 use Rattle.rotation_list.specs.Gates.{one_letter, two_letters, turn_one, controlled, conditional, measured}
 use Rattle.rotation_list.specs.Items.{HasLetter, one_gate, two_gate, conditional_gate, flat_items, hidden_in, items_from, ActsBelow, register_in, IsNamed, HasNames, circuit_of}
 
@@ -136,10 +138,6 @@ two_fits n high registers twos.Cz c t v w = controlled_fits n high registers Z c
 if_fits : (n high : ℕ) (registers : List Register) (l : Letter) (q first size value : ℕ) → q < n → acts l ≡ true → first + size ≤ high → ReadsWhole registers (item.If (one_letter n false q l) first size value) → AllFit n high registers (conditional n l q first size value)
 if_fits n high registers l q first size value w a below whole = (record { axis = one_long n false q l; letter = one_acts n false q l w a; below = below; whole = whole }, tt)
 
--- the register of a condition
-abbrev IsOne : ℕ → ℕ → Register → Type 0
-IsOne first size r = (r.first ≡ first) × (r.size ≡ size)
-
 conditional_fits : (n high : ℕ) (registers : List Register) (gate : Gate1) (q first size value : ℕ) → q < n → first + size ≤ high → Any (IsOne first size) registers → AllFit n high registers (conditional_gate n gate q first size value)
 conditional_fits n high registers ones.X q first size value w below whole = if_fits n high registers X q first size value w refl below (inl whole)
 conditional_fits n high registers ones.Y q first size value w below whole = if_fits n high registers Y q first size value w refl below (inl whole)
@@ -174,8 +172,7 @@ flat_fits tree next high registers (flats.If gate q first size value) h d low ro
     conditional_fits (members tree.quantum) high registers gate q first size value h.0 (let l = r.1 in omega arith) r.0
 
 pub both_fit : (n high : ℕ) (registers : List Register) (is js : List Item) → AllFit n high registers is → AllFit n high registers js → AllFit n high registers (is ++ js)
-both_fit n high registers [] js h k = k
-both_fit n high registers (i ∷ is) js h k = (h.0, both_fit n high registers is js h.1 k)
+both_fit n high registers is js h k = both_parts (Fits n high registers) is js h k
 
 all_fit : (tree : Tree) (next high : ℕ) (registers : List Register) (fs : List Flat) → All (IsPlaced tree) fs → IsDeclared (members tree.classical) tree.classical registers → members tree.classical ≤ next → next + sum_by hidden_in fs ≤ high → AllFit (members tree.quantum) high registers (items_from (members tree.quantum) next fs)
 all_fit tree next high registers [] h d low room = let P : List Item → Type 0 = AllFit (members tree.quantum) high registers in subst P (sym (items_end (members tree.quantum) next)) tt

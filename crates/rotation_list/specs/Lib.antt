@@ -8,3 +8,4 @@ pub mod Gates
 pub mod Items
 pub mod Texts
 pub mod Generated
+pub mod ReadBack

@@ -22,9 +22,12 @@ fn one_letter(
     requires within { q < qubits }
     ensures { IfOk result (λ p. p ≡ one_letter qubits minus q letter) }
 {
-    let mut letters = vec![in alloc; Letter::I; qubits as usize]?;
-    letters[q as usize] = letter;
-    Product::new(alloc, minus, &letters)
+    let mut axis = Product::identity(alloc, qubits)?;
+    axis.set_letter(q, letter);
+    if minus {
+        axis.negate();
+    }
+    Ok(axis)
 }
 
 // The product of two letters, with sign +.
@@ -42,10 +45,10 @@ fn two_letters(
     requires b_within { b < qubits }
     ensures { IfOk result (λ p. p ≡ two_letters qubits a first b second) }
 {
-    let mut letters = vec![in alloc; Letter::I; qubits as usize]?;
-    letters[a as usize] = first;
-    letters[b as usize] = second;
-    Product::new(alloc, false, &letters)
+    let mut axis = Product::identity(alloc, qubits)?;
+    axis.set_letter(a, first);
+    axis.set_letter(b, second);
+    Ok(axis)
 }
 
 // Appends a turn about one letter.

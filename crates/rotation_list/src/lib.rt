@@ -6,6 +6,7 @@ mod draft;
 mod gates;
 mod items;
 mod jobs;
+mod laws;
 mod line;
 mod list;
 mod needs;
@@ -16,6 +17,7 @@ mod reading;
 mod tests;
 
 pub use jobs::{Big, Text, generate};
+pub use laws::law_printed;
 pub use list::read_list;
 pub use needs::need;
 pub use print::print_products;
