@@ -1,5 +1,5 @@
 -- Words that are an entry's.
-use Rattle.std.proofs.Common.{◌≡◌, ℕ, ◌<◌, List, [], ◌∷◌, sym, ◌∙◌, ap, subst, arith, Bool, true, false}
+use Rattle.std.proofs.Common.{◌≡◌, ◌≢◌, ℕ, ◌<◌, List, drop, map, [], ◌∷◌, sym, ◌∙◌, ap, subst, arith, Bool, true, false}
 use Rattle.std.specs.Prelude.{Option, IfSome, is_some, decimal, ◌==◌, if◌then◌else◌}
 use mathlib.Core.Bool.{not, beq}
 use Rattle.std.proofs.lemmas.Bool.Decides.{nat_tests}
@@ -30,6 +30,19 @@ two_values true true t e = cc
 two_values true false t e = cc
 two_values false true t e = cc
 two_values false false t e = cc
+
+-- a claim without a word for its state is no line's
+pub without_state : (p : ℕ) (axis : Signed) (port : Option ℕ) (old a b c : List (List ℕ)) → old ≡ decimal p ∷ a → a ≡ product_text axis ∷ b → b ≡ optional port ∷ c → ((state : Option ℕ) (rest : List (List ℕ)) → IfSome state IsNumber → c ≢ optional state ∷ rest) → (v : Version) (e : Entry) → IsWorded v ((67 ∷ []) ∷ old) e → ⊥
+without_state p axis port old a b c w x y other v (Claim q axis2 port2 state2 cells) are =
+    let whole : old ≡ decimal p ∷ product_text axis ∷ optional port ∷ c =
+    w ∙ ap (λ t. decimal p ∷ t) (x ∙ ap (λ t. product_text axis ∷ t) y) in
+    let words : (67 ∷ []) ∷ decimal p ∷ product_text axis ∷ optional port ∷ c ≡ entry_words (Claim q axis2 port2 state2 cells) =
+    ap (λ t. (67 ∷ []) ∷ t) (sym whole) ∙ are.are in
+    other state2 (map decimal cells) are.numbers.2 (ap (drop 4) words)
+without_state p axis port old a b c w x y other v (Deliver q given) are = absurd (omega (arith, ap (λ ws. first (word 0 ws)) are.are))
+without_state p axis port old a b c w x y other v (Release q) are = absurd (omega (arith, ap (λ ws. first (word 0 ws)) are.are))
+without_state p axis port old a b c w x y other v (Step q) are = absurd (omega (arith, ap (λ ws. first (word 0 ws)) are.are))
+without_state p axis port old a b c w x y other v (Settle q flip) are = absurd (omega (arith, ap (λ ws. first (word 0 ws)) are.are))
 
 -- a claim that names a port and no state, or a state and no port, is no line's
 pub one_of_two : (p : ℕ) (axis : Signed) (port state : Option ℕ) (old a b c d : List (List ℕ)) → IfSome port IsNumber → IfSome state IsNumber → old ≡ decimal p ∷ a → a ≡ product_text axis ∷ b → b ≡ optional port ∷ c → c ≡ optional state ∷ d → (is_some port ≡ is_some state → ⊥) → (v : Version) (e : Entry) → IsWorded v ((67 ∷ []) ∷ old) e → ⊥
