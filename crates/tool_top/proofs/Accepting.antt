@@ -21,7 +21,7 @@ use Rattle.tool_top.specs.declared.fault.Fault.{Fault}
 use Rattle.tool_top.specs.declared.fault.Fault.TheVariants as fault
 use Rattle.tool_top.specs.Schedules.{asked_of, IsShort}
 use Rattle.tool_top.specs.Carried.{new_position, parts_job}
-use Rattle.tool_top.specs.Ends.{IsDone, IsOutside}
+use Rattle.tool_top.specs.Told.{IsDone, IsOutside}
 use Rattle.tool_top.proofs.Brought.{same_job}
 
 -- ---- errors of known kinds
@@ -55,11 +55,6 @@ read_whole P None told' bytes some same read h = absurd (true≢false (sym some)
 read_whole P (Some text) told' bytes some same read (short, p) =
     let as_read : bytes ≡ take (67108864 + 1) text = subst (λ (t : Option (List ℕ)). ReadAs t bytes) same read in
     subst (Reads P) (sym (as_read ∙ take_all (67108864 + 1) text (omega arith))) (short, p)
-
--- what is asked on the job's new board
-pub asked_on : (job : Job) (b : Position) (text : List ℕ) (v : Version) (h : List Noted) (fails : List Fail) → IsJob job → b ≡ new_position (parts_job job.layout job.products fails) → fails ≡ job.outcomes.fails → IsTextOf (asked_of job) text v h → IsTextOf (asked job.circuit b.job job.outcomes.given) text v h
-asked_on job b text v h fails kept e same i =
-    subst (λ (j : BoardJob). IsTextOf (asked job.circuit j job.outcomes.given) text v h) (sym (ap (λ (p : Position). p.job) e ∙ same_job job fails kept same)) i
 
 pub outside_err : {A : Type 0} (r : Result A Fault) (f : JobFault) → IsErrAnd r (λ e. e ≡ fault.Job f) → job_faults.IsOutside f → IfErr r IsOutside
 outside_err (Ok a) f is h = tt

@@ -24,9 +24,11 @@ use Rattle.board_core.specs.Shows.{Shows}
 use Rattle.schedule_text.specs.Text.{text_of, two}
 use Rattle.finish_run.specs.Next.{IsPending, NoneIs, ComesNext}
 use Rattle.finish_run.specs.Finished.{GoesOn, behind, by_zero, own_from, own_or_given}
+use Rattle.history_replay.specs.Replay.{asked}
 use Rattle.job_read.specs.declared.Job.{Job}
 use Rattle.job_read.specs.Kept.{IsJob}
 use Rattle.tool_top.specs.Serial.{board_job, ClaimsAscend, IsJoinedBehind, RegionsJoin, IsSerialSchedule}
+use Rattle.tool_top.specs.Schedules.{asked_of}
 use Rattle.tool_top.specs.Carried.{IsBroughtToEnd, new_position, parts_job}
 use Rattle.tool_top.proofs.Claims.{claims_ascend}
 
@@ -77,11 +79,10 @@ all_given given = own_nothing 0 given
 pub serial_schedule : LegalAndCompleteIsTheHeadline → (job : Job) (b : Position) → IsJob job → IsBroughtToEnd job b → IsSerialSchedule job (text_of two b.history job.circuit.registers (bit_after job.circuit.items job.outcomes.given))
 serial_schedule law job b kept end =
     record {
-      history = b.history;
-      legal = law job.circuit.qubits job.circuit.items job.layout job.outcomes.fails job.outcomes.given (past b) kept.circuit.well_formed.axes_fit kept.right_kinds end.legal end.complete;
+      schedule =
+          (b.history, law job.circuit.qubits job.circuit.items job.layout job.outcomes.fails job.outcomes.given (past b) kept.circuit.well_formed.axes_fit kept.right_kinds end.legal end.complete, refl);
       ascending = ascend_from (board_job job) job.outcomes.given b end.goes;
       joined = joins_from (board_job job) job.outcomes.given b end.goes;
-      written = refl;
     }
 
 -- ---- from a new board
@@ -100,3 +101,8 @@ brought job start b e complete goes legal =
       complete = subst (λ (j : BoardJob). Complete j (past b) job.outcomes.given) is (subst (Complete b.job (past b)) given complete);
       goes = from_new;
     }
+
+-- what is asked on the job's new board
+pub same_question : (job : Job) (b : Position) (fails : List Fail) → IsJob job → b ≡ new_position (parts_job job.layout job.products fails) → fails ≡ job.outcomes.fails → asked job.circuit b.job job.outcomes.given ≡ asked_of job
+same_question job b fails kept e same =
+    ap (λ (j : BoardJob). asked job.circuit j job.outcomes.given) (ap (λ (p : Position). p.job) e ∙ same_job job fails kept same)

@@ -8,3 +8,4 @@ mod Sinks
 mod Ending
 mod Replaying
 mod Accepting
+mod Refusing

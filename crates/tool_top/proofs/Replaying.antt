@@ -63,11 +63,6 @@ stops_replay tells tells' before mid after c l o s job bytes (fault.Job f) stand
 stops_replay tells tells' before mid after c l o s job bytes fault.ScheduleUnread stands same read h = absurd h
 stops_replay tells tells' before mid after c l o s job bytes fault.Unwritten stands same read h = absurd h
 
--- the first bad line, on the job's new board
-pub bad_line : (job : Job) (b : Position) (text : List ℕ) (line : ℕ) (fails : List Fail) → IsJob job → b ≡ new_position (parts_job job.layout job.products fails) → fails ≡ job.outcomes.fails → FirstBad (asked job.circuit b.job job.outcomes.given) text line → FirstBad (asked_of job) text line
-bad_line job b text line fails kept e same h =
-    subst (λ (j : BoardJob). FirstBad (asked job.circuit j job.outcomes.given) text line) (ap (λ (p : Position). p.job) e ∙ same_job job fails kept same) h
-
 -- a fact for the value of a result, and one for its error
 pub ok_map : {A B : Type 0} (r : Result A B) (P Q : A → Type 0) → ((a : A) → P a → Q a) → IfOk r P → IfOk r Q
 ok_map (Ok a) P Q f h = f a h

@@ -1,15 +1,14 @@
 -- How each command ends: what it writes, or why it writes nothing.
-use Rattle.std.specs.Prelude.{◌≡◌, ◌⊎◌, ℕ, ◌≤◌, List, codes, Result, Ok, Err}
+use Rattle.std.specs.Prelude.{◌≡◌, ◌⊎◌, ℕ, List, codes, Result, Ok, Err}
 use Rattle.source_model.specs.declared.Circuit.{Circuit}
 use Rattle.patch_layout.specs.Grid.{Grid}
 use Rattle.board_core.specs.declared.Noted.{Noted}
 use Rattle.schedule_text.specs.Text.{Version}
 use Rattle.job_read.specs.declared.Job.{Job}
 use Rattle.job_read.specs.declared.fault.JobFault.{JobFault}
-use Rattle.job_read.specs.Reading.{Seen, Failed, IsNamed, IsTold}
+use Rattle.job_read.specs.Reading.{Seen, Failed}
 use Rattle.job_read.specs.Stages.{CircuitStands, LayoutStands}
-use Rattle.job_read.specs.Jobs as job_faults
-use Rattle.job_read.specs.Jobs.{StandsForJob, Because, CircuitStops, LayoutStops, TellsAll}
+use Rattle.job_read.specs.Jobs.{StandsForJob, Because, CircuitStops, LayoutStops}
 use Rattle.tool_words.specs.Commands.{Tool, serial, lower, layout, verify, slices, migrate, layers, least, tool_words}
 use Rattle.tool_top.specs.declared.fault.Fault.{Fault}
 use Rattle.tool_top.specs.declared.fault.Fault.TheVariants as fault
@@ -82,42 +81,6 @@ Stops r t fault.ScheduleTooLong = StopsAtSchedule r t (λ s job. ScheduleLong s)
 Stops r t (fault.ScheduleIllegal line) = StopsAtSchedule r t (λ s job. ScheduleBad s job line)
 Stops r t fault.Unwritten = ⊥
 Stops r t fault.Memory = Unit {0}
-
--- ---- accepted texts
-
--- the job's texts and the schedule's are told, and accepted
-abbrev pub AcceptsSchedule : Shelved → List ℕ → List ℕ → List ℕ → List ℕ → Type 0
-AcceptsSchedule r c l o s =
-    (job : Job) × (v : Version) × (h : List Noted) × TellsAll (job_on r c l o) × StandsForJob (job_on r c l o) job × IsTold (seen_on r s) × ScheduleStands (seen_on r s) job v h
-
--- all texts that the command reads are told, and accepted
-abbrev pub Accepts : Shelved → Tool → Type 0
-Accepts r (serial c l o) = (job : Job) × TellsAll (job_on r c l o) × StandsForJob (job_on r c l o) job
-Accepts r (lower c) = IsTold (seen_on r c) × OnCircuit r c (λ circuit. Unit {0})
-Accepts r (layout c l) = IsTold (seen_on r c) × (IsNamed l → IsTold (seen_on r l)) × OnLayout r c l (λ grid. Unit {0})
-Accepts r (verify c l o s) = AcceptsSchedule r c l o s
-Accepts r (slices c l o s) = AcceptsSchedule r c l o s
-Accepts r (migrate c l o s) = AcceptsSchedule r c l o s
-Accepts r (layers c) = ⊥
-Accepts r (least c l o) = ⊥
-
--- the shelf or the output failed, or memory is wanting
-abbrev pub IsOutside : Fault → Type 0
-IsOutside (fault.Job f) = job_faults.IsOutside f
-IsOutside fault.ScheduleUnread = Unit {0}
-IsOutside fault.ScheduleTooLong = ⊥
-IsOutside (fault.ScheduleIllegal line) = ⊥
-IsOutside fault.Unwritten = Unit {0}
-IsOutside fault.Memory = Unit {0}
-
--- all was done, or the outside is the cause that it wasn't
-abbrev pub IsDone : Result (Unit {0}) Fault → Type 0
-IsDone (Ok done) = Unit {0}
-IsDone (Err f) = IsOutside f
-
--- 0, or a status that the outside is the cause of: 7, 8 or 9
-abbrev pub IsDoneStatus : ℕ → Type 0
-IsDoneStatus status = (status ≡ 0) ⊎ (7 ≤ status)
 
 -- ---- how a command ends
 

@@ -4,5 +4,6 @@ pub mod Serial
 pub mod Lower
 pub mod Schedules
 pub mod Ends
+pub mod Told
 pub mod Carried
 pub mod Replayed

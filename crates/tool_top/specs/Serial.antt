@@ -2,17 +2,16 @@
 use Rattle.std.specs.Prelude.{◌≡◌, ℕ, List, [], ◌∷◌, flat_map, take, slice_get, Option, Some}
 use Rattle.std.specs.List.Sorted.{IsStrictlyIncreasing}
 use Rattle.pauli_product.specs.Signed.{Signed}
-use Rattle.source_model.specs.SourceRun.{bit_after}
 use Rattle.patch_layout.specs.declared.look.Look.{Look}
 use Rattle.region_plan.specs.Answer.{LeastJoined}
 use Rattle.board_core.specs.declared.Noted.{Noted}
 use Rattle.board_core.specs.declared.Entry.{Entry}
 use Rattle.board_core.specs.declared.Entry.TheVariants.{Claim, Deliver, Release, Step, Settle}
-use Rattle.board_core.specs.Headline.{IsOneLegalHistory, job_of}
+use Rattle.board_core.specs.Headline.{job_of}
 use Rattle.board_core.specs.History.{History, entries}
 use Rattle.board_core.specs.Legal.{Job as BoardJob}
 use Rattle.board_core.specs.Shows.{Shows}
-use Rattle.schedule_text.specs.Text.{text_of, two}
+use Rattle.schedule_text.specs.Written.{IsSchedule}
 use Rattle.job_read.specs.declared.Job.{Job}
 
 -- the board's job of what was read
@@ -42,11 +41,9 @@ RegionsJoin j h =
     → slice_get h n ≡ Some (record { by = by; entry = Claim p axis port state cells })
     → IsJoinedBehind j (take n h) p port cells
 
--- the text is that of one legal history of the job, whose bits are the source's for its outcomes; products are claimed in ascending
--- order, and each region is joined in the free cells
+-- the text is that of one legal history of the job, with the source's bits for its outcomes; products are claimed in ascending order,
+-- and each region is joined in the free cells
 pub record IsSerialSchedule (job : Job) (text : List ℕ) : Type 0 where
-  pub history : List Noted
-  pub legal : IsOneLegalHistory job.circuit.items job.layout job.outcomes.fails job.outcomes.given (entries history)
-  pub ascending : ClaimsAscend (entries history)
-  pub joined : RegionsJoin (board_job job) history
-  pub written : text ≡ text_of two history job.circuit.registers (bit_after job.circuit.items job.outcomes.given)
+  pub schedule : IsSchedule job.circuit.items job.circuit.registers job.layout job.outcomes.fails job.outcomes.given text
+  pub ascending : ClaimsAscend (entries schedule.0)
+  pub joined : RegionsJoin (board_job job) schedule.0

@@ -3,9 +3,11 @@
 ghost use Rattle.std.specs.Prelude.{◌≡◌, ℕ, ◌≤◌, List, OnOk, OnErr};
 ghost use Rattle.patch_base.specs.Outside.{Rose, Grew, AppendsPrefix};
 ghost use Rattle.tool_words.specs.Commands as tool;
+ghost use Rattle.tool_top.specs.declared.fault.Fault.{Fault as Fault_of};
 ghost use Rattle.tool_top.specs.Outside.{shelved, writing};
 ghost use Rattle.tool_top.specs.Lower.{shown};
-ghost use Rattle.tool_top.specs.Ends.{Accepts, Ends, IsDone};
+ghost use Rattle.tool_top.specs.Ends.{Ends};
+ghost use Rattle.tool_top.specs.Told.{Accepts, EndsBy, IsDone, Refuses};
 
 use crate::fault::Fault;
 use crate::saying::write_number;
@@ -32,6 +34,8 @@ pub fn show_layout<S: Shelf, O: Sink>(
         Ends r w (tool.layout circuit.now layout.now) result }
     ensures complete { let r = shelved (S.tells shelf.old) (S.faults shelf.old) (S.faults shelf.new) in
         Accepts r (tool.layout circuit.now layout.now) → IsDone result }
+    ensures refuses { let r = shelved (S.tells shelf.old) (S.faults shelf.old) (S.faults shelf.new) in
+        (f : Fault_of) → Refuses r (tool.layout circuit.now layout.now) f → EndsBy f result }
 {
     let circuit = load_circuit(alloc, shelf, circuit)?;
     let products = statics(alloc, &circuit)?;

@@ -3,9 +3,11 @@
 ghost use Rattle.std.specs.Prelude.{◌≡◌, ℕ, ◌≤◌, List, IfOk};
 ghost use Rattle.source_model.specs.Circuits.{WellFormed};
 ghost use Rattle.tool_words.specs.Commands as tool;
+ghost use Rattle.tool_top.specs.declared.fault.Fault.{Fault as Fault_of};
 ghost use Rattle.tool_top.specs.Outside.{shelved, writing};
 ghost use Rattle.tool_top.specs.Lower.{lowered};
-ghost use Rattle.tool_top.specs.Ends.{Accepts, Ends, IsDone};
+ghost use Rattle.tool_top.specs.Ends.{Ends};
+ghost use Rattle.tool_top.specs.Told.{Accepts, EndsBy, IsDone, Refuses};
 
 use crate::fault::Fault;
 use job_read::load_circuit;
@@ -29,6 +31,8 @@ pub fn lower<S: Shelf, O: Sink>(
         Ends r w (tool.lower circuit.now) result }
     ensures complete { let r = shelved (S.tells shelf.old) (S.faults shelf.old) (S.faults shelf.new) in
         Accepts r (tool.lower circuit.now) → IsDone result }
+    ensures refuses { let r = shelved (S.tells shelf.old) (S.faults shelf.old) (S.faults shelf.new) in
+        (f : Fault_of) → Refuses r (tool.lower circuit.now) f → EndsBy f result }
 {
     let circuit = load_circuit(alloc, shelf, circuit)?;
     let text = lowered(alloc, &circuit)?;

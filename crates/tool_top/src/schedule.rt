@@ -1,13 +1,14 @@
 //! Reading a schedule's text against a job.
 
-ghost use Rattle.std.specs.Prelude.{◌≡◌, ℕ, ◌≤◌, List, IfOk, IfErr};
+ghost use Rattle.std.specs.Prelude.{◌≡◌, ℕ, ◌<◌, ◌≤◌, List, length, IfOk, IfErr};
 ghost use Rattle.board_core.specs.declared.Noted.{Noted};
 ghost use Rattle.schedule_text.specs.Text.{Version};
-ghost use Rattle.history_replay.specs.Replay.{IsTextOf};
+ghost use Rattle.history_replay.specs.Replay.{IsTextOf, FirstBad};
 ghost use Rattle.job_read.specs.Kept.{IsJob};
+ghost use Rattle.tool_top.specs.declared.fault.Fault.{Fault as Fault_of};
 ghost use Rattle.tool_top.specs.Outside.{shelved};
 ghost use Rattle.tool_top.specs.Schedules.{IsShort, asked_of};
-ghost use Rattle.tool_top.specs.Ends.{AcceptsSchedule, IsOutside};
+ghost use Rattle.tool_top.specs.Told.{AcceptsSchedule, EndsBy, IsOutside, RefusesSchedule};
 ghost use Rattle.tool_top.specs.Replayed.{IsReplayed, IsReplayedOn, StopsReading, StopsReplaying};
 
 use crate::board::new_board;
@@ -49,6 +50,8 @@ pub fn read_schedule<S: Shelf>(
         IfErr result (StopsReading r names.entry.circuit.now names.entry.layout.now names.entry.outcomes.now names.entry.schedule.now) }
     ensures complete { let r = shelved (S.tells shelf.old) (S.faults shelf.old) (S.faults shelf.new) in
         AcceptsSchedule r names.entry.circuit.now names.entry.layout.now names.entry.outcomes.now names.entry.schedule.now → IfErr result IsOutside }
+    ensures refuses { let r = shelved (S.tells shelf.old) (S.faults shelf.old) (S.faults shelf.new) in
+        (f : Fault_of) → RefusesSchedule r names.entry.circuit.now names.entry.layout.now names.entry.outcomes.now names.entry.schedule.now f → EndsBy f result }
 {
     let job = read_job(alloc, shelf, names.circuit, names.layout, names.outcomes)?;
     match read_text(alloc, shelf, names.schedule, SCHEDULE_BYTES) {
@@ -64,6 +67,8 @@ fn replay(alloc: Global, job: Job, text: &[u8]) -> Result<Replayed, Fault>
     ensures replayed { IfOk result (IsReplayedOn job text.now) }
     ensures stops { IfErr result (StopsReplaying job text.now) }
     ensures complete { (v : Version) (h : List Noted) → IsShort text.now → IsTextOf (asked_of job) text.now v h → IfErr result IsOutside }
+    ensures long { 67108864 < length text.now → result ≡ Err Fault.ScheduleTooLong }
+    ensures bad { (line : ℕ) → IsShort text.now → FirstBad (asked_of job) text.now line → EndsBy (Fault.ScheduleIllegal line) result }
 {
     if text.len() as u64 > SCHEDULE_BYTES {
         return Err(Fault::ScheduleTooLong);

@@ -9,9 +9,11 @@ ghost use Rattle.board_core.specs.Laws.{LegalAndCompleteIsTheHeadline};
 ghost use Rattle.schedule_text.specs.Text.{text_of, two};
 ghost use Rattle.job_read.specs.Kept.{IsJob};
 ghost use Rattle.tool_words.specs.Commands as tool;
+ghost use Rattle.tool_top.specs.declared.fault.Fault.{Fault as Fault_of};
 ghost use Rattle.tool_top.specs.Outside.{shelved, writing};
 ghost use Rattle.tool_top.specs.Carried.{IsBroughtToEnd, IsComplete, WritesText};
-ghost use Rattle.tool_top.specs.Ends.{Accepts, Ends, IsDone};
+ghost use Rattle.tool_top.specs.Ends.{Ends};
+ghost use Rattle.tool_top.specs.Told.{Accepts, EndsBy, IsDone, Refuses};
 
 use crate::board::new_board;
 use crate::fault::Fault;
@@ -40,6 +42,8 @@ pub fn serial<S: Shelf, O: Sink>(
         Ends r w (tool.serial circuit.now layout.now outcomes.now) result }
     ensures complete { let r = shelved (S.tells shelf.old) (S.faults shelf.old) (S.faults shelf.new) in
         Accepts r (tool.serial circuit.now layout.now outcomes.now) → IsDone result }
+    ensures refuses { let r = shelved (S.tells shelf.old) (S.faults shelf.old) (S.faults shelf.new) in
+        (f : Fault_of) → Refuses r (tool.serial circuit.now layout.now outcomes.now) f → EndsBy f result }
 {
     law_headline();
     let job = read_job(alloc, shelf, circuit, layout, outcomes)?;

@@ -2,12 +2,14 @@
 
 ghost use Rattle.std.specs.Prelude.{◌≡◌, ℕ, ◌≤◌, List};
 ghost use Rattle.tool_words.specs.Commands as tool;
+ghost use Rattle.tool_top.specs.declared.fault.Fault.{Fault as Fault_of};
 ghost use Rattle.tool_top.specs.Outside.{shelved, writing};
 ghost use Rattle.board_core.specs.Position.{past};
 ghost use Rattle.slice_write.specs.Slices.{sliced};
 ghost use Rattle.slice_write.specs.Pictures.{slices_text};
 ghost use Rattle.tool_top.specs.Carried.{WritesText};
-ghost use Rattle.tool_top.specs.Ends.{Accepts, Ends, IsDone};
+ghost use Rattle.tool_top.specs.Ends.{Ends};
+ghost use Rattle.tool_top.specs.Told.{Accepts, EndsBy, IsDone, Refuses};
 
 use crate::fault::Fault;
 use crate::schedule::{Names, read_schedule};
@@ -31,6 +33,8 @@ pub fn slice_schedule<S: Shelf, O: Sink>(
         Ends r w (tool.slices names.entry.circuit.now names.entry.layout.now names.entry.outcomes.now names.entry.schedule.now) result }
     ensures complete { let r = shelved (S.tells shelf.old) (S.faults shelf.old) (S.faults shelf.new) in
         Accepts r (tool.slices names.entry.circuit.now names.entry.layout.now names.entry.outcomes.now names.entry.schedule.now) → IsDone result }
+    ensures refuses { let r = shelved (S.tells shelf.old) (S.faults shelf.old) (S.faults shelf.new) in
+        (f : Fault_of) → Refuses r (tool.slices names.entry.circuit.now names.entry.layout.now names.entry.outcomes.now names.entry.schedule.now) f → EndsBy f result }
 {
     let replayed = read_schedule(alloc, names, shelf)?;
     write_board_slices(alloc, &replayed.board, out)

@@ -2,8 +2,10 @@
 
 ghost use Rattle.std.specs.Prelude.{◌≡◌, ◌≤◌, ◌⊎◌, ℕ, List, map, codes, string_bytes, IfSome, IfNone};
 ghost use Rattle.tool_words.specs.Commands.{Tool, tool_of, tool_words};
+ghost use Rattle.tool_top.specs.declared.fault.Fault.{Fault as Fault_of};
 ghost use Rattle.tool_top.specs.Outside.{Said, Untouched, shelved, writing};
-ghost use Rattle.tool_top.specs.Ends.{Accepts, CarriesOut, Ends, IsBuilt, IsDone, IsDoneStatus, RefusesWords, Writes};
+ghost use Rattle.tool_top.specs.Ends.{CarriesOut, Ends, IsBuilt, RefusesWords, Writes};
+ghost use Rattle.tool_top.specs.Told.{Accepts, AnswersBy, EndsBy, IsDone, IsDoneStatus, Refuses};
 
 use crate::fault::Fault;
 use crate::layout::show_layout;
@@ -40,6 +42,10 @@ pub fn tool_main<S: Shelf, O: Sink, E: Sink>(
     // Words of a command and texts that are told and accepted give status 0, unless the outside fails.
     ensures complete { let r = shelved (S.tells shelf.old) (S.faults shelf.old) (S.faults shelf.new) in
         (t : Tool) → map string_bytes words.now ≡ tool_words t → Accepts r t → IsDoneStatus result }
+    // Told texts of which one is refused give the status and the line of its refusal, unless the outside fails.
+    ensures refuses { let r = shelved (S.tells shelf.old) (S.faults shelf.old) (S.faults shelf.new) in
+        let e = writing (E.taken err.old) (E.taken err.new) (E.faults err.old) (E.faults err.new) in
+        (t : Tool) (f : Fault_of) → map string_bytes words.now ≡ tool_words t → Refuses r t f → AnswersBy e t f result }
 
     // What the shelf tells stays, and no count falls.
     ensures told { (n : List ℕ) → S.tells shelf.new n ≡ S.tells shelf.old n }
@@ -86,6 +92,8 @@ fn carry_out<S: Shelf, O: Sink>(
         IfSome result (Ends r w (tool_of command.entry)) }
     ensures complete { let r = shelved (S.tells shelf.old) (S.faults shelf.old) (S.faults shelf.new) in
         Accepts r (tool_of command.entry) → IfSome result IsDone }
+    ensures refuses { let r = shelved (S.tells shelf.old) (S.faults shelf.old) (S.faults shelf.new) in
+        (f : Fault_of) → Refuses r (tool_of command.entry) f → IfSome result (EndsBy f) }
     ensures other { IfNone result (IsBuilt (tool_of command.entry) → ⊥) }
     ensures silent { IfNone result (Untouched (writing (O.taken out.old) (O.taken out.new) (O.faults out.old) (O.faults out.new))) }
 {

@@ -2,8 +2,10 @@
 
 ghost use Rattle.std.specs.Prelude.{◌≡◌, ℕ, ◌≤◌, List};
 ghost use Rattle.tool_words.specs.Commands as tool;
+ghost use Rattle.tool_top.specs.declared.fault.Fault.{Fault as Fault_of};
 ghost use Rattle.tool_top.specs.Outside.{shelved, writing};
-ghost use Rattle.tool_top.specs.Ends.{Accepts, Ends, IsDone};
+ghost use Rattle.tool_top.specs.Ends.{Ends};
+ghost use Rattle.tool_top.specs.Told.{Accepts, EndsBy, IsDone, Refuses};
 
 use crate::fault::Fault;
 use crate::schedule::{Names, read_schedule};
@@ -25,6 +27,8 @@ pub fn verify_schedule<S: Shelf, O: Sink>(
         Ends r w (tool.verify names.entry.circuit.now names.entry.layout.now names.entry.outcomes.now names.entry.schedule.now) result }
     ensures complete { let r = shelved (S.tells shelf.old) (S.faults shelf.old) (S.faults shelf.new) in
         Accepts r (tool.verify names.entry.circuit.now names.entry.layout.now names.entry.outcomes.now names.entry.schedule.now) → IsDone result }
+    ensures refuses { let r = shelved (S.tells shelf.old) (S.faults shelf.old) (S.faults shelf.new) in
+        (f : Fault_of) → Refuses r (tool.verify names.entry.circuit.now names.entry.layout.now names.entry.outcomes.now names.entry.schedule.now) f → EndsBy f result }
 {
     let _replayed = read_schedule(alloc, names, shelf)?;
     write_all(out, b"legal\n")?;

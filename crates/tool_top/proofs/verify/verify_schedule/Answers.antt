@@ -1,7 +1,23 @@
+use Rattle.std.proofs.Common.{refl}
+use Rattle.tool_words.specs.Commands as tool
 use Rattle.tool_top.specs.declared.fault.Fault.TheVariants as fault
+use Rattle.tool_top.specs.Outside.{shelved, writing}
+use Rattle.tool_top.specs.Schedules.{verdict}
 use Rattle.tool_top.proofs.Accepting.{done_for}
+use Rattle.tool_top.proofs.Ending.{unwritten, written_ends}
 use Rattle.tool_top.proofs.verify.verify_schedule.Goals as goal
 
 pub returns-in_err-write_all-clause-complete : goal.returns-in_err-write_all-clause-complete
 returns-in_err-write_all-clause-complete g c = λ a.
     done_for c.from_residual-in_err-write_all.result fault.Unwritten c.from_residual-in_err-write_all.ensures.1 tt
+
+pub returns-in_err-write_all-clause-ends : goal.returns-in_err-write_all-clause-ends
+returns-in_err-write_all-clause-ends g c =
+    let read = c.in_ok-_replayed.ensures.replayed in
+    let w = writing (g.O.Sink.taken c.args.out.now) (g.O.Sink.taken c.write_all.new.out) (g.O.Sink.faults c.args.out.now) (g.O.Sink.faults c.write_all.new.out) in
+    let end = c.from_residual-in_err-write_all.result in
+    written_ends
+    (shelved (g.S.Shelf.tells c.args.shelf.now) (g.S.Shelf.faults c.args.shelf.now) (g.S.Shelf.faults c.read_schedule.new.shelf)) w
+    (tool.verify c.args.names.circuit.now c.args.names.layout.now c.args.names.outcomes.now c.args.names.schedule.now) verdict end
+    (read.job, read.stands, (read.version, c.in_ok-_replayed._replayed.board.history, read.schedule, refl))
+    (unwritten w verdict end c.from_residual-in_err-write_all.ensures.1 (c.in_err-write_all.ensures.failed, c.in_err-write_all.ensures.prefix))
