@@ -1,12 +1,13 @@
 #!/usr/bin/env python3
 """Writes large jobs for timing by hand.
 
-usage: large.py list|gates PRODUCTS_OR_GATES QUBITS FOLDER
+usage: large.py list|wide|gates PRODUCTS_OR_GATES QUBITS FOLDER
 
 `list` writes a product list of random axes with one to four letters, of which the last QUBITS are measurements;
-`gates` writes an OpenQASM 2.0 text of random gates, a T gate in each sixteen, and measures every qubit.
-Both write circuit, layout and outcomes into FOLDER. The layout has rows of patches with free rows and columns
-between them, and sixteen ports. The jobs of equal words are equal.
+`wide` writes the same list; `gates` writes an OpenQASM 2.0 text of random gates, a T gate in each sixteen, and
+measures every qubit. All write circuit, layout and outcomes into FOLDER. The layout has rows of patches with free
+rows and columns between them, and sixteen ports; that of `wide`, for at most 64 qubits, has its patches eight cells
+apart on 64 x 64 cells, and eight ports. The jobs of equal words are equal.
 """
 
 import random
@@ -24,6 +25,15 @@ def layout(qubits):
         lines.append(f"patch {q} {cell} h")
     for f in range(16):
         lines.append(f"port {f} {(height + 1) * columns + 2 * f + 1} h 4")
+    return lines
+
+
+def wide_layout(qubits):
+    lines = ["layout 1 64 64"]
+    for q in range(qubits):
+        lines.append(f"patch {q} {(8 * (q // 8) + 4) * 64 + 8 * (q % 8) + 4} {'hv'[q % 2]}")
+    for f in range(8):
+        lines.append(f"port {f} {63 * 64 + 8 * f + 1} h 4")
     return lines
 
 
@@ -63,9 +73,9 @@ def gates(rng, count, qubits):
 def main():
     kind, count, qubits, folder = sys.argv[1], int(sys.argv[2]), int(sys.argv[3]), sys.argv[4]
     rng = random.Random(f"{kind} {count} {qubits}")
-    make = {"list": product_list, "gates": gates}[kind]
-    circuit, outcomes = make(rng, count, qubits)
-    for name, lines in [("circuit", circuit), ("layout", layout(qubits)), ("outcomes", outcomes)]:
+    circuit, outcomes = (gates if kind == "gates" else product_list)(rng, count, qubits)
+    grid = (wide_layout if kind == "wide" else layout)(qubits)
+    for name, lines in [("circuit", circuit), ("layout", grid), ("outcomes", outcomes)]:
         with open(f"{folder}/{name}", "w", encoding="ascii", newline="\n") as file:
             file.write("\n".join(lines) + "\n")
 
