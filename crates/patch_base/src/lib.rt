@@ -4,6 +4,7 @@
 
 mod calls;
 mod limits;
+mod list;
 mod memory_shelf;
 mod memory_sink;
 mod name;
@@ -18,6 +19,7 @@ pub use limits::{
     BITS, CELLS, DEFINITIONS, DEPTH, FACTORIES, FAILS, FORMALS, OPERATIONS, PRODUCTS, QUBITS,
     REGISTERS, ROUTERS, SCHEDULE_BYTES, STORE, TEXT_BYTES,
 };
+pub use list::Listed;
 pub use memory_shelf::{MemoryShelf, NeverFails};
 pub use memory_sink::MemorySink;
 pub use name::is_name;
