@@ -15,7 +15,7 @@ mod words;
 
 use crate::word::Word;
 use crate::words::Words;
-pub use law::{law_carry, law_commuting, law_conjugation, law_pull};
+pub use law::{law_alike, law_carry, law_commuting, law_conjugation, law_products, law_pull};
 use patch_base::Memory;
 use smallvec::SmallVec;
 use std::alloc::Global;
@@ -277,8 +277,10 @@ fn sign_of_byte(byte: u8) -> Option<bool>
 
 // The letters that a text spells, one a byte.
 fn read_letters(alloc: Global, text: &[u8]) -> Result<Option<Vec<Letter>>, Memory>
-    ensures some { IfOk result (λ found. IfSome found (λ v. text.now ≡ flat_map letter_text v.items)) }
-    ensures exact { IfOk result (λ found. (ls : List Letter) → text.now ≡ flat_map letter_text ls → IsSomeAnd found (λ v. v.items ≡ ls)) }
+    ensures some { IfOk result (λ found. IfSome found (λ v. text.now ≡
+        flat_map letter_text v.items)) }
+    ensures exact { IfOk result (λ found. (ls : List Letter) → text.now ≡ flat_map letter_text ls →
+        IsSomeAnd found (λ v. v.items ≡ ls)) }
 {
     let mut letters = Vec::with_capacity(alloc, text.len())?;
     for byte in text {
@@ -294,7 +296,8 @@ fn read_letters(alloc: Global, text: &[u8]) -> Result<Option<Vec<Letter>>, Memor
 fn words_of_i(alloc: Global, qubits: u32) -> Result<Words, Memory>
     requires { qubits ≤ 1024 }
     ensures holds { IfOk result (λ words. HoldsQubits qubits words.kept.items) }
-    ensures letters { IfOk result (λ words. first_letters qubits words.kept.items ≡ replicate qubits I) }
+    ensures letters { IfOk result (λ words. first_letters qubits words.kept.items ≡
+        replicate qubits I) }
 {
     let count = qubits.div_ceil(64) as usize;
     Ok(Words {
@@ -330,7 +333,8 @@ fn pack(letters: &[Letter]) -> Word
 // Appends the text of the first letters of the words.
 fn print_words(words: &[Word], qubits: u32, into: &mut Vec<u8>)
     requires { vec_len into.old + qubits ≤ vec_capacity into.old }
-    ensures { into.new.items ≡ into.old.items ++ flat_map letter_text (first_letters qubits words.now) }
+    ensures { into.new.items ≡
+        into.old.items ++ flat_map letter_text (first_letters qubits words.now) }
 {
     let mut left = qubits;
     for word in words {
@@ -344,7 +348,8 @@ fn print_words(words: &[Word], qubits: u32, into: &mut Vec<u8>)
 fn print_letters(word: Word, count: u32, into: &mut Vec<u8>)
     requires few { count ≤ 64 }
     requires room { vec_len into.old + count ≤ vec_capacity into.old }
-    ensures text { into.new.items ≡ into.old.items ++ flat_map letter_text (take count (word_letters word)) }
+    ensures text { into.new.items ≡
+        into.old.items ++ flat_map letter_text (take count (word_letters word)) }
     ensures len { vec_len into.new ≡ vec_len into.old + count }
     ensures capacity { vec_capacity into.new ≡ vec_capacity into.old }
 {
@@ -367,7 +372,8 @@ fn first_support(words: &[Word], from: u32) -> Option<u32>
     requires { length words.now ≤ 16 }
     ensures found { IfSome result (λ q. slice_index_or (all_letters words.now) q I ≢ I) }
     ensures after { IfSome result (λ q. from ≤ q) }
-    ensures first { IfSome result (λ q. (k : ℕ) → from ≤ k → k < q → slice_index_or (all_letters words.now) k I ≡ I) }
+    ensures first { IfSome result (λ q. (k : ℕ) → from ≤ k → k < q →
+        slice_index_or (all_letters words.now) k I ≡ I) }
     ensures none { IfNone result (IsClearFrom from (all_letters words.now)) }
 {
     for i in (from / 64) as usize..words.len() {
@@ -396,7 +402,8 @@ fn clash_count(left: &[Word], right: &[Word]) -> u32
 fn multiply(left: &mut [Word], right: &[Word]) -> u32
     requires equal { length right.now ≡ length left.old }
     requires few { length left.old ≤ 16 }
-    ensures letters { all_letters left.new ≡ letters_product (all_letters left.old) (all_letters right.now) }
+    ensures letters { all_letters left.new ≡
+        letters_product (all_letters left.old) (all_letters right.now) }
     ensures power { result ≡ letters_phase (all_letters left.old) (all_letters right.now) }
     ensures small { result ≤ 192 * 16 }
 {
