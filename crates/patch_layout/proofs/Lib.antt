@@ -21,3 +21,6 @@ pub mod Laying
 pub mod Refusing
 pub mod Once
 pub mod Causes
+pub mod Orders
+pub mod Certificates
+pub mod Laws

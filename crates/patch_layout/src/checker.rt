@@ -2,7 +2,7 @@
 
 ghost use Rattle.std.specs.Prelude.{◌≡◌, ℕ, ◌+◌, ◌<◌, ◌≤◌, ◌^◌, ◌↔◌, length, slice_get, List, Option, Some, None, IsTrue, MatchOption, IfNone, ◌∷◌, []};
 ghost use Rattle.patch_layout.specs.Grid.{IsAncilla, Adjacent, Sound};
-ghost use Rattle.patch_layout.specs.Certificate.{CellFits, ParentFits, TouchFits, Judged, Each, PortFits, IsRoot, IsChild, NoRootBefore, Patched, LetterPatched, Shaped, TouchAt, BadFrom, Checked};
+ghost use Rattle.patch_layout.specs.Certificate.{CellFits, ParentFits, TouchFits, Judged, Each, PortFits, IsRoot, IsChild, NoRootBefore, Patched, LetterPatched, Shaped, side_count, TouchAt, BadFrom, Checked};
 ghost use Rattle.patch_layout.specs.Region.{Fit, sides_of, port_side, wanted_sides};
 ghost use Rattle.patch_layout.specs.Case.{case, case_of};
 
@@ -127,15 +127,15 @@ fn sides_of_letter(letter: Letter) -> u32
     }
 }
 
-/// How many sides an axis and a port ask for.
-fn side_count(axis: &Product, port: Option<u32>) -> u32
-    ensures { result ≡ length (wanted_sides axis.now port) }
+// How many sides a product asks for: those of its letters, and for a rotation the port's.
+fn side_count(axis: &Product, rotation: bool) -> u32
+    ensures { result ≡ side_count axis.now rotation }
 {
     let mut count = 0;
     for qubit in 0..axis.len() {
         count += sides_of_letter(axis.letter(qubit));
     }
-    if port.is_some() { count + 1 } else { count }
+    if rotation { count + 1 } else { count }
 }
 
 /// Whether a letter is I, or the qubit has a patch.
@@ -163,21 +163,22 @@ fn is_patched(layout: &Layout, axis: &Product) -> bool
     true
 }
 
-/// Whether there are cells, a parent for each, a touch for each side that is asked for, and the patches.
+// Whether there are cells, a parent for each, a touch for each side that the product asks for,
+// and the patches.
 fn is_shaped(
     layout: &Layout,
     axis: &Product,
-    port: Option<u32>,
+    rotation: bool,
     cells: &[u32],
     parents: &[Parent],
     touches: &[u32],
 ) -> bool
-    ensures { IsTrue result ↔ Shaped layout.now axis.now port cells.now parents.now touches.now }
+    ensures { IsTrue result ↔ Shaped layout.now axis.now rotation cells.now parents.now touches.now }
 {
     if cells.is_empty() || parents.len() != cells.len() {
         return false;
     }
-    if touches.len() != side_count(axis, port) as usize {
+    if touches.len() != side_count(axis, rotation) as usize {
         return false;
     }
     is_patched(layout, axis)
@@ -291,7 +292,7 @@ fn first_fault(
     ensures sound { Sound layout.now }
 {
     let _ = layout.size();
-    if !is_shaped(layout, axis, port, cells, parents, touches) {
+    if !is_shaped(layout, axis, rotation, cells, parents, touches) {
         return Some(Fault::Shape);
     }
     if !port_fits(layout, rotation, port) {

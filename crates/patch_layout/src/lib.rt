@@ -4,6 +4,7 @@
 mod certifier;
 mod checker;
 mod fault;
+mod law;
 mod layout;
 mod line;
 mod look;
@@ -22,6 +23,7 @@ mod walk;
 pub use certifier::certify;
 pub use checker::check;
 pub use fault::LayoutFault;
+pub use law::law_certificate;
 pub use layout::{Edge, Layout, Side, Site, Tile};
 pub use look::{HeldList, Look};
 pub use plan::{CellList, Fault, Parent, ParentList, Plan, TouchList};
