@@ -1,21 +1,21 @@
 -- Every ascending region that fits has a certificate.
-use Rattle.std.proofs.Common.{◌≡◌, ◌≢◌, ℕ, zero, suc, Bool, true, false, ◌+◌, ◌-◌, ◌<◌, ◌≤◌, ◌==◌, inl, inr, ◌⊎◌, length, slice_get, get_or, Option, Some, None, is_some, List, [], ◌∷◌, ◌++◌, refl, sym, ◌∙◌, ap, subst, arith, Contains, All, AllPairs, if◌then◌else◌}
+use Rattle.std.proofs.Common.{◌≡◌, ◌≢◌, ℕ, zero, suc, true, false, ◌+◌, ◌<◌, ◌==◌, inl, inr, ◌⊎◌, length, slice_get, Option, Some, None, is_some, List, [], ◌∷◌, refl, sym, ◌∙◌, subst, arith, Contains, All, AllPairs, if◌then◌else◌}
 use Rattle.std.proofs.lemmas.Bool.{cases_lt}
-use Rattle.std.proofs.lemmas.Option.{slice_get_within, slice_get-get_or, get_or_from_slice_get}
+use Rattle.std.proofs.lemmas.Option.{slice_get_within}
 use Rattle.pauli_product.specs.Signed.{Signed}
 use Rattle.patch_layout.specs.declared.plan.Parent.{Parent}
 use Rattle.patch_layout.specs.declared.layout.Side.{Side}
 use Rattle.patch_layout.specs.declared.layout.Site.TheVariants as site
 use Rattle.patch_layout.specs.Grid.{Grid, Sound, Adjacent, IsAncilla}
 use Rattle.patch_layout.specs.Region.{Fit, Touches, OnSide, AreJoined, wanted_sides}
-use Rattle.patch_layout.specs.Certificate.{Certified, ParentFits, TouchFits, IsRoot, IsChild, NoRootBefore, Each}
+use Rattle.patch_layout.specs.Certificate.{Certified, ParentFits, Each}
 use Rattle.patch_layout.specs.Case.{Ascending, case}
 use Rattle.patch_layout.specs.Tree.{TouchEach}
 use Rattle.patch_layout.proofs.Places.{get_below, same_entry, get_from_Contains, Contains_from_get}
 use Rattle.patch_layout.proofs.Looking.{one_place}
 use Rattle.patch_layout.proofs.Certifying.{certified_both}
 use Rattle.std.proofs.lemmas.List.Elements.{All-contains}
-use Rattle.patch_layout.proofs.Orders.{Has, Ordered, Order, order_of}
+use Rattle.patch_layout.proofs.Orders.{Has, Ordered, order_of}
 
 put : (ℕ → ℕ) → ℕ → ℕ → ℕ → ℕ
 put n p x j = if j == p then x else n j

@@ -4,7 +4,6 @@ pub mod Places
 pub mod Walking
 pub mod Neighbours
 pub mod Looking
-pub mod Tracing
 pub mod Fits
 pub mod Judging
 pub mod OnSides

@@ -71,7 +71,7 @@ fn root_at_first(
 {
     place(cells, marks, places);
     let first = [cells[0]];
-    let _ = spread(layout, marks, &first, [None, None], seen, queue)?;
+    spread(layout, marks, &first, seen, queue)?;
     name_parents(cells, queue, places, parents);
     Ok(())
 }

@@ -95,7 +95,7 @@ fn cut_off(
     ensures { IfOk result (λ found. MatchOption found ((c : ℕ) → IsAncilla layout.now c → Joins layout.now (IsAncilla layout.now) first c) (Least (CutFrom layout.now first))) }
 {
     let start = [first];
-    let _ = spread(layout, free, &start, [None, None], seen, queue)?;
+    spread(layout, free, &start, seen, queue)?;
     Ok(unseen_cell(free, seen))
 }
 

@@ -9,6 +9,5 @@ pub mod OverSides
 pub mod Serving
 pub mod Finishing
 pub mod Answering
-pub mod TwoPorts
 pub mod Marking
 pub mod Porting
