@@ -15,7 +15,8 @@ use Rattle.magic_pool.specs.declared.Fail.{Fail}
 use Rattle.board_core.specs.declared.Entry.{Entry}
 use Rattle.board_core.specs.History.{History, delivered, claim_place, done_place, taken_states}
 use Rattle.board_core.specs.Legal.{Job, AxisOf, FlipOf, Ready, Holds, Allowed, Legal, Complete}
-use Rattle.board_core.specs.Orders.{InSourceOrderUpToSwaps}
+use Rattle.board_core.specs.Orders.{InSourceOrderUpToSwaps, steps_of}
+use Rattle.trace_laws.specs.Runs.{source_axis, source_flip}
 use Rattle.board_core.specs.View.{claimed_axis, turns_of}
 use Rattle.board_core.specs.Headline.{job_of, IsOneLegalHistory}
 
@@ -80,6 +81,18 @@ abbrev pub ClaimsHaveSourceAxes : Type 0
 ClaimsHaveSourceAxes = (n : ℕ) (j : Job) (table : List Given) (h : History) (p : ℕ) (axis : Signed) →
     ProductsOfLength n j.products → length table ≡ length j.products → Legal j h → Agrees table h → claimed_axis h p ≡ Some axis →
     slice_get (axes (static_items j.products) table) p ≡ Some axis
+
+-- the source run that the laws of orders speak of is the circuit's own: it has its axes, whatever the outcomes
+abbrev pub AxesAreSourceAxes : Type 0
+AxesAreSourceAxes = (products : List Static) (table : List Given) (p : ℕ) (s : Static) →
+    length table ≡ length products → slice_get products p ≡ Some s →
+    slice_get (axes (static_items products) table) p ≡ source_axis (steps_of products table) p
+
+-- and its flips
+abbrev pub FlipsAreSourceFlips : Type 0
+FlipsAreSourceFlips = (products : List Static) (table : List Given) (p : ℕ) (s : Static) (first size value : ℕ) →
+    length table ≡ length products → slice_get products p ≡ Some s → s.kind ≡ kind.Settle first size value →
+    flips (progress_after fresh (static_items (take p products)) table) first size value ≡ source_flip (steps_of products table) p
 
 -- products are done in source order up to swaps of commuting neighbours
 abbrev pub OrderIsSourceOrderUpToSwaps : Type 0

@@ -11,11 +11,9 @@ mod desk;
 mod differ;
 mod frames;
 mod judging;
-mod laws;
+mod law;
 mod ledger;
 mod makers;
-#[cfg(test)]
-mod tests;
 mod waiting;
 
 pub use board::{
@@ -23,9 +21,9 @@ pub use board::{
     Differ, NoProduct, ReleaseRefused, ReleaseWhy, Standing,
 };
 pub use desk::Board;
-pub use laws::{
-    law_apart, law_axis_known, law_claims, law_frame, law_headline, law_next, law_order, law_short,
-    law_states, law_third,
+pub use law::{
+    law_apart, law_axis_known, law_claims, law_frame, law_headline, law_looks, law_next, law_order,
+    law_plans, law_short, law_source, law_states, law_third,
 };
 pub use makers::pool_of;
 use patch_layout::CellList;

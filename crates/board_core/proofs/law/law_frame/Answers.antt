@@ -1,5 +1,5 @@
 use Rattle.board_core.proofs.Frame.{axis_stays, frame_is_source}
-use Rattle.board_core.proofs.laws.law_frame.Goals as goal
+use Rattle.board_core.proofs.law.law_frame.Goals as goal
 
 pub returns-clause-stays : goal.returns-clause-stays
 returns-clause-stays c = axis_stays

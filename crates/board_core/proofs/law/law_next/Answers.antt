@@ -1,5 +1,5 @@
 use Rattle.board_core.proofs.Going.{legal_empty, legal_next, legal_back}
-use Rattle.board_core.proofs.laws.law_next.Goals as goal
+use Rattle.board_core.proofs.law.law_next.Goals as goal
 
 pub returns-clause-empty : goal.returns-clause-empty
 returns-clause-empty c = legal_empty

@@ -1,6 +1,7 @@
 //! What holds of every legal history, over definitions alone. The functions do nothing: each carries a law in its contract.
 
-ghost use Rattle.board_core.specs.Laws.{LegalAndCompleteIsTheHeadline, AxisIsKnown, OwnAxisIsKnown, FlipIsKnown, EmptyIsLegal, AllowedGoesOn, LegalGoesBack, ClaimsHaveSourceAxes, OrderIsSourceOrderUpToSwaps, ClaimedAxisStays, FrameIsSource, ThirdHoldsBack, RegionsAreApart, StatesServeOnce};
+ghost use Rattle.board_core.specs.Laws.{LegalAndCompleteIsTheHeadline, AxisIsKnown, OwnAxisIsKnown, FlipIsKnown, EmptyIsLegal, AllowedGoesOn, LegalGoesBack, ClaimsHaveSourceAxes, OrderIsSourceOrderUpToSwaps, ClaimedAxisStays, FrameIsSource, ThirdHoldsBack, RegionsAreApart, StatesServeOnce, AxesAreSourceAxes, FlipsAreSourceFlips};
+ghost use Rattle.board_core.specs.BoardLaws.{LooksAreEqual, AllowedClaimsHavePlans};
 ghost use Rattle.board_core.specs.Limits.{LegalIsShort};
 
 /// A legal history that is complete for a table of outcomes holds regions apart, takes each magic state once, completes
@@ -58,4 +59,21 @@ pub fn law_states()
 /// Within the limits a legal history has fewer than 2^20 entries.
 pub fn law_short()
     ensures { LegalIsShort }
+{}
+
+/// The laws of orders speak of the source run a gate at a time: its axes and flips are those of the circuit of static
+/// products, whatever the outcomes.
+pub fn law_source()
+    ensures axes { AxesAreSourceAxes }
+    ensures flips { FlipsAreSourceFlips }
+{}
+
+/// Two looks that show the same product of the same board are equal.
+pub fn law_looks()
+    ensures { LooksAreEqual }
+{}
+
+/// Each claim that legality allows has a plan that the check passes, and so a board accepts it.
+pub fn law_plans()
+    ensures { AllowedClaimsHavePlans }
 {}

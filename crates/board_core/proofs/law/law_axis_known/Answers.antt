@@ -1,6 +1,6 @@
 use Rattle.board_core.proofs.Known.{axis_known, flip_known}
 use Rattle.board_core.proofs.WholeRun.{own_axis_known}
-use Rattle.board_core.proofs.laws.law_axis_known.Goals as goal
+use Rattle.board_core.proofs.law.law_axis_known.Goals as goal
 
 pub returns-clause-axis : goal.returns-clause-axis
 returns-clause-axis c = axis_known
