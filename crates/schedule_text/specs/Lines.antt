@@ -36,6 +36,10 @@ IsShaped v (Step f) = Unit {0}
 IsShaped one (Settle p flip) = ⊥
 IsShaped two (Settle p flip) = Unit {0}
 
+-- an entry that a text of the version may have
+abbrev pub StandsIn : Version → Noted → Type 0
+StandsIn v n = Prints v n × IsShaped v n.entry
+
 -- the line is an entry line of the version, and this is its entry
 pub record IsEntryLine (v : Version) (line : List ℕ) (n : Noted) : Type 0 where
   pub prints : Prints v n

@@ -14,6 +14,7 @@ ghost use Rattle.board_core.specs.Position.{past};
 ghost use Rattle.schedule_text.specs.Bits.{LeavesBits};
 ghost use Rattle.schedule_text.specs.Lines.{IsEntryLine, version_of};
 ghost use Rattle.schedule_text.specs.Text.{text_of, bits_text, two, bit_in, TextTellsAll};
+ghost use Rattle.schedule_text.specs.Laws.{OneSchedule, LegalEntriesStand};
 
 mod bits;
 mod pen;
@@ -22,7 +23,7 @@ mod read;
 mod tests;
 
 use bits::{Said, count};
-use board_core::{Board, Noted, law_headline};
+use board_core::{Board, Noted, law_headline, law_short};
 use node_log::Log;
 use patch_base::{Failed, Memory, Sink, Words};
 use pen::Pen;
@@ -164,3 +165,15 @@ pub fn read_entry(alloc: Global, line: &[u8], version: u32) -> Result<Option<Not
 pub fn law_text_tells_all()
     ensures { TextTellsAll }
 {}
+
+/// A text is the schedule of one history alone.
+pub fn law_one_schedule()
+    ensures { OneSchedule }
+{}
+
+/// Each entry of a legal history may stand in a schedule's text, where its worker has a number of 0 to 63.
+pub fn law_legal_entries_stand()
+    ensures { LegalEntriesStand }
+{
+    law_short();
+}
