@@ -10,7 +10,7 @@ use crate::layout::{Edge, Layout, Side, is_on};
 use crate::plan::{Fault, Parent, Plan};
 use pauli_product::{Letter, Product};
 
-/// Whether a rotation names a port that is there, or a measurement none.
+// Whether a rotation names a port that is there, or a measurement none.
 fn port_fits(layout: &Layout, rotation: bool, port: Option<u32>) -> bool
     ensures { IsTrue result ↔ PortFits layout.now rotation port }
 {
@@ -23,7 +23,7 @@ fn port_fits(layout: &Layout, rotation: bool, port: Option<u32>) -> bool
     }
 }
 
-/// Whether the cell is an ancilla cell, and greater than the one before it.
+// Whether the cell is an ancilla cell, and greater than the one before it.
 fn cell_fits(layout: &Layout, cells: &[u32], index: usize) -> bool
     requires { index < length cells.now }
     ensures { IsTrue result ↔ CellFits layout.now cells.now index }
@@ -45,7 +45,7 @@ pub fn bad_cell(layout: &Layout, cells: &[u32]) -> Option<u32>
     None
 }
 
-/// Whether the entry names the entry of a neighbouring cell whose depth is one less.
+// Whether the entry names the entry of a neighbouring cell whose depth is one less.
 fn is_child(
     layout: &Layout,
     cells: &[u32],
@@ -66,7 +66,7 @@ fn is_child(
     parents[named].depth == parent.depth - 1 && layout.adjacent(cells[index], cells[named])
 }
 
-/// Whether the entry is the first of depth 0 and names itself, or is a child.
+// Whether the entry is the first of depth 0 and names itself, or is a child.
 fn parent_fits(
     layout: &Layout,
     cells: &[u32],
@@ -87,7 +87,7 @@ fn parent_fits(
     first && parent.index as usize == index
 }
 
-/// Whether no entry up to this one has depth 0.
+// Whether no entry up to this one has depth 0.
 fn stays_first(parents: &[Parent], index: usize, first: bool) -> bool
     requires index { index < length parents.now }
     requires first { IsTrue first ↔ NoRootBefore parents.now index }
@@ -97,7 +97,7 @@ fn stays_first(parents: &[Parent], index: usize, first: bool) -> bool
     if parent.depth > 0 { first } else { false }
 }
 
-/// The first entry that is neither the one root nor a child.
+// The first entry that is neither the one root nor a child.
 fn bad_parent(layout: &Layout, cells: &[u32], parents: &[Parent]) -> Option<u32>
     requires cells { Each (CellFits layout.now cells.now) (length cells.now) }
     requires sizes { length parents.now ≡ length cells.now }
@@ -114,7 +114,7 @@ fn bad_parent(layout: &Layout, cells: &[u32], parents: &[Parent]) -> Option<u32>
     None
 }
 
-/// How many sides a letter asks for.
+// How many sides a letter asks for.
 fn sides_of_letter(letter: Letter) -> u32
     ensures value { (q : ℕ) → result ≡ length (sides_of q letter) }
     ensures few { result ≤ 2 }
@@ -138,7 +138,7 @@ fn side_count(axis: &Product, rotation: bool) -> u32
     if rotation { count + 1 } else { count }
 }
 
-/// Whether a letter is I, or the qubit has a patch.
+// Whether a letter is I, or the qubit has a patch.
 fn letter_patched(layout: &Layout, qubit: u32, letter: Letter) -> bool
     ensures { IsTrue result ↔ LetterPatched layout.now qubit letter }
 {
@@ -151,7 +151,7 @@ fn letter_patched(layout: &Layout, qubit: u32, letter: Letter) -> bool
     }
 }
 
-/// Whether a patch stands at each letter other than I.
+// Whether a patch stands at each letter other than I.
 fn is_patched(layout: &Layout, axis: &Product) -> bool
     ensures { IsTrue result ↔ Patched layout.now axis.now.letters }
 {
@@ -184,7 +184,7 @@ fn is_shaped(
     is_patched(layout, axis)
 }
 
-/// Whether the touch at a place is the index of a cell on the side.
+// Whether the touch at a place is the index of a cell on the side.
 fn touch_fits(layout: &Layout, cells: &[u32], touches: &[u32], place: u32, side: Side) -> bool
     ensures { IsTrue result ↔ TouchAt layout.now cells.now touches.now place side }
 {
@@ -199,7 +199,7 @@ fn touch_fits(layout: &Layout, cells: &[u32], touches: &[u32], place: u32, side:
     is_on(layout.side(side), cells[index])
 }
 
-/// The place, where the touch there doesn't fit.
+// The place, where the touch there doesn't fit.
 fn bad_at(layout: &Layout, cells: &[u32], touches: &[u32], place: u32, side: Side) -> Option<u32>
     ensures { BadFrom layout.now cells.now touches.now place (side ∷ []) result }
 {
@@ -210,7 +210,7 @@ fn bad_at(layout: &Layout, cells: &[u32], touches: &[u32], place: u32, side: Sid
     }
 }
 
-/// The first place from one on where the touch of a letter's side doesn't fit.
+// The first place from one on where the touch of a letter's side doesn't fit.
 fn bad_in_letter(
     layout: &Layout,
     cells: &[u32],
@@ -241,7 +241,7 @@ fn bad_in_letter(
     }
 }
 
-/// The place, where the touch there doesn't fit the port's side.
+// The place, where the touch there doesn't fit the port's side.
 fn bad_at_port(
     layout: &Layout,
     cells: &[u32],
@@ -257,7 +257,7 @@ fn bad_at_port(
     }
 }
 
-/// The first place where the touch of a side doesn't fit.
+// The first place where the touch of a side doesn't fit.
 fn bad_touch(
     layout: &Layout,
     axis: &Product,
@@ -278,7 +278,7 @@ fn bad_touch(
     bad_at_port(layout, cells, touches, place, port)
 }
 
-/// The first rule that a certificate breaks.
+// The first rule that a certificate breaks.
 fn first_fault(
     layout: &Layout,
     rotation: bool,

@@ -36,11 +36,11 @@ impl Look {
     /// A look at product 0 of an empty history: no cell is held, nothing is taken or ready, and the axis is the identity. The fields are the caller's to fill.
     pub fn new(alloc: Global, layout: &Layout, qubits: u32) -> Result<Look, Memory>
         requires { qubits ≤ 1024 }
-        ensures unheld { IfOk result (λ look. look.held ≡ replicate (length layout.now.sites) None) }
-        ensures untaken { IfOk result (λ look. (look.taken ≡ None) × (look.waits ≡ None)) }
-        ensures identity { IfOk result (λ look. look.axis ≡ identity qubits) }
-        ensures first { IfOk result (λ look. (look.product ≡ 0) × (look.length ≡ 0) × (look.rotation ≡ false)) }
-        ensures unready { IfOk result (λ look. look.ready ≡ replicate 16 0) }
+        ensures unheld { IfOk result (λ l. l.held ≡ replicate (length layout.now.sites) None) }
+        ensures untaken { IfOk result (λ l. (l.taken ≡ None) × (l.waits ≡ None)) }
+        ensures identity { IfOk result (λ l. l.axis ≡ identity qubits) }
+        ensures first { IfOk result (λ l. (l.product ≡ 0) × (l.length ≡ 0) × (l.rotation ≡ false)) }
+        ensures unready { IfOk result (λ l. l.ready ≡ replicate 16 0) }
     {
         let held = vec![in alloc; None; layout.size() as usize]?;
         Ok(Look {

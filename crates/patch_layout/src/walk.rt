@@ -2,7 +2,7 @@
 
 ghost use Rattle.std.specs.Prelude.{◌≡◌, ℕ, ◌+◌, ◌*◌, ◌<◌, ◌≤◌, ◌^◌, ◌↔◌, ◌++◌, ◌∷◌, [], length, map, true, slice_get, slice_set, Some, List, IfOk, IsTrue, IsFalse, All, AllPairs, ◌≢◌, Contains, vec_len, if◌then◌else◌};
 ghost use Rattle.patch_layout.specs.Grid.{neighbours, Sound};
-ghost use Rattle.patch_layout.specs.Spread.{Marked, is_new, unseen, starting, Spread};
+ghost use Rattle.patch_layout.specs.Spread.{Marked, is_new, unseen, starting, Ended};
 
 use crate::layout::Layout;
 use patch_base::Memory;
@@ -15,7 +15,7 @@ pub struct Reached {
     pub steps: u32,
 }
 
-/// Puts a free cell into the queue that isn't seen yet.
+// Puts a free cell into the queue that isn't seen yet.
 fn reach(
     free: &[bool],
     seen: &mut [bool],
@@ -35,7 +35,7 @@ fn reach(
     Ok(())
 }
 
-/// Starts a walk at these cells.
+// Starts a walk at these cells.
 fn begin(cells: &[u32], seen: &mut [bool], queue: &mut Vec<Reached>) -> Result<(), Memory>
     requires { All (λ c. c < length seen.old) cells.now }
     ensures queue { IfOk result (λ _. queue.new.items ≡ map starting cells.now) }
@@ -69,7 +69,7 @@ pub fn spread(
     requires distinct { AllPairs (λ a b. a ≢ b) cells.now }
     requires few { length cells.now ≤ 4096 }
     requires sound { Sound layout.now }
-    ensures { IfOk result (λ _. Spread layout.now (Marked free.now) cells.now queue.new.items (length queue.new.items) seen.new) }
+    ensures { IfOk result (λ _. Ended layout.now free.now cells.now queue.new.items seen.new) }
 {
     begin(cells, seen, queue)?;
     let mut head = 0;

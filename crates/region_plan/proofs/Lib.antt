@@ -11,3 +11,4 @@ pub mod Finishing
 pub mod Answering
 pub mod Marking
 pub mod Porting
+pub mod Laws
