@@ -1,6 +1,6 @@
 //! What holds of every legal history, over definitions alone. The functions do nothing: each carries a law in its contract.
 
-ghost use Rattle.board_core.specs.Laws.{LegalAndCompleteIsTheHeadline, AxisIsKnown, OwnAxisIsKnown, FlipIsKnown, EmptyIsLegal, AllowedGoesOn, LegalGoesBack, ClaimsHaveSourceAxes, OrderIsSourceOrderUpToSwaps, ClaimedAxisStays, FrameIsSource, ThirdHoldsBack, RegionsAreApart, StatesServeOnce, AxesAreSourceAxes, FlipsAreSourceFlips};
+ghost use Rattle.board_core.specs.Laws.{LegalAndCompleteIsTheHeadline, AxisIsKnown, OwnAxisIsKnown, FlipIsKnown, EmptyIsLegal, AllowedGoesOn, LegalGoesBack, ClaimsHaveSourceAxes, OrderIsSourceOrderUpToSwaps, ClaimedAxisStays, FrameIsSource, ThirdHoldsBack, RegionsAreApart, StatesServeOnce, AxesAreSourceAxes, FlipsAreSourceFlips, FrontIsLegal, EntriesGoOn, DeliveriesGoOn, ClaimsGoOn, ClaimsHaveAxes, DeliveriesStand, UndoneIsUndelivered, ReleasedIsClaimed, TablesFit};
 ghost use Rattle.board_core.specs.BoardLaws.{LooksAreEqual, AllowedClaimsHavePlans};
 ghost use Rattle.board_core.specs.Limits.{LegalIsShort};
 
@@ -22,6 +22,19 @@ pub fn law_next()
     ensures empty { EmptyIsLegal }
     ensures next { AllowedGoesOn }
     ensures back { LegalGoesBack }
+    ensures front { FrontIsLegal }
+{}
+
+/// What stands in a history: entries one after another, first claims and deliveries, and what comes before what.
+pub fn law_past()
+    ensures entries { EntriesGoOn }
+    ensures deliveries { DeliveriesGoOn }
+    ensures claims { ClaimsGoOn }
+    ensures axes { ClaimsHaveAxes }
+    ensures stand { DeliveriesStand }
+    ensures undone { UndoneIsUndelivered }
+    ensures released { ReleasedIsClaimed }
+    ensures tables { TablesFit }
 {}
 
 /// Each claim has the axis and sign of the source run, by every table that agrees with the deliveries.

@@ -1,6 +1,6 @@
 //! The board: a legal history of claims, deliveries, releases, factory steps and settlings.
 //!
-//! Products are carried out in any order that keeps those that don't commute behind one another. The scheme is that of
+//! Products are carried out in any order that keeps those that don't commute in source order. The scheme is that of
 //! Litinski, "A Game of Surface Codes" (Quantum 3, 128, 2019), section 1.
 #![tactic(auto)]
 
@@ -23,7 +23,7 @@ pub use board::{
 pub use desk::Board;
 pub use law::{
     law_apart, law_axis_known, law_claims, law_frame, law_headline, law_looks, law_next, law_order,
-    law_plans, law_short, law_source, law_states, law_third,
+    law_past, law_plans, law_short, law_source, law_states, law_third,
 };
 pub use makers::pool_of;
 use patch_layout::CellList;
@@ -63,7 +63,7 @@ pub enum Entry {
     },
 }
 
-/// An entry, with the number of the pass that made it.
+/// An entry, with the number of the worker that made it.
 #[derive(Drop)]
 pub struct Noted {
     pub by: u32,

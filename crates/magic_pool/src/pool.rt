@@ -12,8 +12,8 @@ use patch_base::{FACTORIES, Memory};
 use std::alloc::Global;
 use std::marker::Model;
 
-/// Factories with their ready states. A clause speaks of every history that the pool is one behind:
-/// the factories stepped, in order, and the states taken, in order. A new pool is one behind no steps.
+/// Factories with their ready states. A clause speaks of every history that the pool may have had:
+/// the factories stepped, in order, and the states taken, in order. A new pool has had no steps.
 #[derive(Drop)]
 pub struct Pool {
     makers: Vec<Maker>,

@@ -1,4 +1,4 @@
-use Rattle.board_core.proofs.Going.{legal_empty, legal_next, legal_back}
+use Rattle.board_core.proofs.Laws.{legal_empty, legal_next, legal_back, legal_front}
 use Rattle.board_core.proofs.law.law_next.Goals as goal
 
 pub returns-clause-empty : goal.returns-clause-empty
@@ -9,3 +9,6 @@ returns-clause-next c = legal_next
 
 pub returns-clause-back : goal.returns-clause-back
 returns-clause-back c = legal_back
+
+pub returns-clause-front : goal.returns-clause-front
+returns-clause-front c = legal_front
