@@ -1,5 +1,5 @@
 use Rattle.schedule_text.proofs.Worded.{too_great}
-use Rattle.schedule_text.proofs.read.pass.Goals as goal
+use Rattle.schedule_text.proofs.read.worker.Goals as goal
 
 pub returns-else-by-le63-clause-other : goal.returns-else-by-le63-clause-other
 returns-else-by-le63-clause-other c =
