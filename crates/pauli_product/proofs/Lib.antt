@@ -5,3 +5,5 @@ pub mod Products
 pub mod Texts
 pub mod WordLetters
 pub mod Masks
+pub mod Letters
+pub mod Laws

@@ -7,3 +7,4 @@ pub mod Rows
 pub mod Spelling
 pub mod Words
 pub mod Masks
+pub mod Laws

@@ -1,5 +1,5 @@
 -- Signed Pauli products as a sign and a letter for each qubit.
-use Rattle.std.specs.Prelude.{◌≡◌, ◌≢◌, ℕ, Bool, false, ◌+◌, ◌%◌, ◌==◌, ◌<◌, if◌then◌else◌, List, [], ◌∷◌, length, slice_index_or}
+use Rattle.std.specs.Prelude.{◌≡◌, ◌≢◌, ℕ, Bool, false, ◌+◌, ◌%◌, ◌==◌, ◌<◌, if◌then◌else◌, List, [], ◌∷◌, length, slice_get, slice_index_or, Some}
 use Rattle.pauli_product.specs.declared.Letter.{Letter}
 use Rattle.pauli_product.specs.declared.Letter.TheVariants.{I}
 use Rattle.pauli_product.specs.Letters.{letter_product, letter_phase, letters_clash}
@@ -62,3 +62,11 @@ pub record IsInSupport (p : Signed) (q : ℕ) : Type 0 where
 
 abbrev pub IsOutside : Signed → ℕ → Type 0
 IsOutside p q = letter_at p q ≡ I
+
+-- the letter of the qubit is there, and other than I
+abbrev pub HasLetter : Signed → ℕ → Type 0
+HasLetter p q = (l : Letter) × (slice_get p.letters q ≡ Some l) × (l ≢ I)
+
+-- some letter is other than I
+abbrev pub IsNotIdentity : Signed → Type 0
+IsNotIdentity p = (q : ℕ) × HasLetter p q

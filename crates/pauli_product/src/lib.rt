@@ -9,9 +9,11 @@ ghost use Rattle.pauli_product.specs.Spelling.{sign_text, letter_text, product_t
 ghost use Rattle.pauli_product.specs.Words.{word_letters};
 ghost use Rattle.pauli_product.specs.Masks.{all_letters, first_letters, IsClearFrom, HoldsQubits};
 
+mod law;
 mod word;
 
 use crate::word::Word;
+pub use law::{law_carry, law_commuting, law_conjugation, law_pull};
 use patch_base::Memory;
 use smallvec::SmallVec;
 use std::alloc::Global;

@@ -1,0 +1,14 @@
+use Rattle.pauli_product.proofs.Laws.{carry_cut, carry_length, carry_letters, carry_commuting}
+use Rattle.pauli_product.proofs.law.law_carry.Goals as goal
+
+pub returns-clause-cut : goal.returns-clause-cut
+returns-clause-cut c = carry_cut
+
+pub returns-clause-length : goal.returns-clause-length
+returns-clause-length c = carry_length
+
+pub returns-clause-letters : goal.returns-clause-letters
+returns-clause-letters c = carry_letters
+
+pub returns-clause-commuting : goal.returns-clause-commuting
+returns-clause-commuting c = carry_commuting

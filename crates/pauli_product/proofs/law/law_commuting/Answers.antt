@@ -1,0 +1,8 @@
+use Rattle.pauli_product.proofs.Laws.{commuting_mutual, commuting_kept}
+use Rattle.pauli_product.proofs.law.law_commuting.Goals as goal
+
+pub returns-clause-mutual : goal.returns-clause-mutual
+returns-clause-mutual c = commuting_mutual
+
+pub returns-clause-kept : goal.returns-clause-kept
+returns-clause-kept c = commuting_kept
