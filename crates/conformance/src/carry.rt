@@ -1,6 +1,7 @@
 //! Carries a case out, and compares how it ends.
 
-ghost use Rattle.std.specs.Prelude.{◌≤◌};
+ghost use Rattle.std.specs.Prelude.{◌≡◌, ◌≤◌, IsTrue, true, false};
+ghost use Rattle.conformance.specs.Ends.{EndsIn};
 
 use crate::case::Case;
 use crate::shelf::CaseShelf;
@@ -90,9 +91,26 @@ fn sink(alloc: Global, room: usize, most: usize, fails: &[u64]) -> Result<Memory
     Ok(sink)
 }
 
-fn is_same(wanted: End<'_>, came: End<'_>) -> bool {
+// Whether the last bytes of a text are these.
+fn ends_in(text: &[u8], end: &[u8]) -> bool
+    ensures { IsTrue result → EndsIn text.now end.now }
+{
+    if text.len() < end.len() {
+        return false;
+    }
+    let last = &text[text.len() - end.len()..];
+    last == end
+}
+
+// Whether a command ended as wanted.
+fn is_same(wanted: End<'_>, came: End<'_>) -> bool
+    ensures status { IsTrue result → came.entry.status ≡ wanted.entry.status }
+    ensures error { IsTrue result → came.entry.error.now ≡ wanted.entry.error.now }
+    ensures output { IsTrue result → wanted.entry.is_end ≡ false → came.entry.output.now ≡ wanted.entry.output.now }
+    ensures end { IsTrue result → wanted.entry.is_end ≡ true → EndsIn came.entry.output.now wanted.entry.output.now }
+{
     let output = if wanted.is_end {
-        came.output.ends_with(wanted.output)
+        ends_in(came.output, wanted.output)
     } else {
         came.output == wanted.output
     };
