@@ -1,20 +1,17 @@
 -- What a job keeps follows from its circuit.
-use Rattle.std.proofs.Common.{◌≡◌, ◌≢◌, ℕ, zero, suc, ◌+◌, ◌<◌, ◌≤◌, ◌%◌, ◌||◌, ◌&&◌, Bool, true, false, if◌then◌else◌, List, [], ◌∷◌, ◌++◌, length, map, slice_get, Option, Some, All, IsTrue, inl, inr, refl, ap, sym, ◌∙◌, subst, arith}
+use Rattle.std.proofs.Common.{◌≡◌, ◌≢◌, ℕ, zero, suc, ◌+◌, ◌<◌, ◌≤◌, ◌||◌, ◌&&◌, true, false, List, [], ◌∷◌, ◌++◌, length, map, slice_get, Some, All, IsTrue, inl, inr, refl, ap, sym, ◌∙◌, subst, arith}
 use Rattle.std.specs.List.{list_any, range_with_len, slice_index_or}
-use Rattle.std.proofs.lemmas.Bool.{cases_lt, or_cases, and_parts, false≢true, true≢false}
+use Rattle.std.proofs.lemmas.Bool.{cases_lt, or_cases, and_parts, false≢true}
 use Rattle.std.proofs.lemmas.List.{get_or_past, length-map}
 use Rattle.std.proofs.lemmas.List.FromFn.{get_or-map-range_with_len, length-map-range_with_len}
 use Rattle.std.proofs.lemmas.Option.{same_Some, none-some, slice_get-get_or}
-use Rattle.std.proofs.lemmas.List.Elements.{All-nil, All-cons, All-head, All-tail}
+use Rattle.std.proofs.lemmas.List.Elements.{All-nil, All-cons, All-head, All-tail, All-append}
 use Rattle.pauli_product.specs.declared.Letter.{Letter}
 use Rattle.pauli_product.specs.declared.Letter.TheVariants.{I, X, Y, Z}
-use Rattle.pauli_product.specs.Letters.{letter_product, letters_clash}
-use Rattle.pauli_product.specs.Signed.{Signed, OfLength, commute, clashes, letters_product}
-use Rattle.pauli_product.specs.Pulls.{Angle, Turn, turn, quarter, half, pull, conj, TurnsOfLength}
-use Rattle.pauli_product.proofs.Algebra.{conj_commuting, conj_moved, odd_from_commute}
-use Rattle.pauli_product.proofs.Turns.{turns_append, length_pull}
+use Rattle.pauli_product.specs.Signed.{Signed, OfLength, IsNotIdentity}
+use Rattle.pauli_product.specs.Pulls.{Angle, Turn, turn, quarter, half, pull, TurnsOfLength}
+use Rattle.pauli_product.proofs.Laws.{pull_length, pull_letters}
 use Rattle.source_model.specs.declared.Angle.TheVariants.{Eighth, Quarter, Half}
-use Rattle.source_model.specs.declared.Circuit.{Circuit}
 use Rattle.source_model.specs.declared.Item.{Item}
 use Rattle.source_model.specs.declared.Item.TheVariants as item
 use Rattle.source_model.specs.declared.Kind.{Kind}
@@ -26,59 +23,26 @@ use Rattle.source_model.specs.Statics.{statics_from, kinds_of}
 use Rattle.source_model.specs.Used.{acts, acts_at, is_used, takes_region, UsedBy}
 use Rattle.rotation_list.specs.Needs.{is_rotation}
 use Rattle.patch_layout.specs.Row.{IsUsed}
-use Rattle.job_read.specs.Kept.{HasLetterAt, HaveLetters}
+use Rattle.job_read.specs.Kept.{HaveLetters}
 use Rattle.job_read.specs.Stages.{wanted_of}
 
 -- ---- letters
-clash_letter : (a b : Letter) → letters_clash a b ≡ true → letter_product a b ≢ I
-clash_letter I b e = absurd (true≢false (sym e))
-clash_letter X I e = absurd (true≢false (sym e))
-clash_letter X X e = absurd (true≢false (sym e))
-clash_letter X Y e = λ s. cc
-clash_letter X Z e = λ s. cc
-clash_letter Y I e = absurd (true≢false (sym e))
-clash_letter Y X e = λ s. cc
-clash_letter Y Y e = absurd (true≢false (sym e))
-clash_letter Y Z e = λ s. cc
-clash_letter Z I e = absurd (true≢false (sym e))
-clash_letter Z X e = λ s. cc
-clash_letter Z Y e = λ s. cc
-clash_letter Z Z e = absurd (true≢false (sym e))
+abbrev LetterAt : List Letter → ℕ → Type 0
+LetterAt ls q = (l : Letter) × (slice_get ls q ≡ Some l) × (l ≢ I)
 
 abbrev LetterIn : List Letter → Type 0
-LetterIn ls = (q : ℕ) × (l : Letter) × (slice_get ls q ≡ Some l) × (l ≢ I)
+LetterIn ls = (q : ℕ) × LetterAt ls q
 
 one_later : (a : Letter) (ls : List Letter) → LetterIn ls → LetterIn (a ∷ ls)
-one_later a ls x = (suc x.0, x.1, x.2, x.3)
-
-clashing : (as' bs : List Letter) → clashes as' bs % 2 ≡ 1 → LetterIn (letters_product as' bs)
-clashing [] bs e = absurd (omega arith)
-clashing (a ∷ as') [] e = absurd (omega arith)
-clashing (a ∷ as') (b ∷ bs) e = go (λ f. clashing as' bs f) (letters_clash a b) refl e
-  where
-    go : (clashes as' bs % 2 ≡ 1 → LetterIn (letters_product as' bs)) → (c : Bool) → letters_clash a b ≡ c → ((if c then 1 else 0) + clashes as' bs) % 2 ≡ 1 → LetterIn (letters_product (a ∷ as') (b ∷ bs))
-    go more true s f = (0, letter_product a b, refl, clash_letter a b s)
-    go more false s f = one_later (letter_product a b) (letters_product as' bs) (more (ap (λ (n : ℕ). n % 2) (let z : clashes as' bs ≡ 0 + clashes as' bs = omega arith in z) ∙ f))
-
-conj_letter : (q : Signed) (a : Angle) (p : Signed) → LetterIn p.letters → LetterIn (conj q a p).letters
-conj_letter q a p x = go (commute q p) refl a
-  where
-    go : (c : Bool) → commute q p ≡ c → (a : Angle) → LetterIn (conj q a p).letters
-    go true s a = subst (λ (y : Signed). LetterIn y.letters) (sym (conj_commuting q a p s)) x
-    go false s quarter = subst (λ (y : Signed). LetterIn y.letters) (sym (conj_moved q quarter p s)) (clashing q.letters p.letters (odd_from_commute q p s))
-    go false s half = subst (λ (y : Signed). LetterIn y.letters) (sym (conj_moved q half p s)) x
-
-pull_letter : (ts : List Turn) (p : Signed) → LetterIn p.letters → LetterIn (pull ts p).letters
-pull_letter [] p x = x
-pull_letter (t ∷ ts) p x = conj_letter t.axis t.angle (pull ts p) (pull_letter ts p x)
+one_later a ls x = (suc x.0, x.1)
 
 letter_at : (ls : List Letter) (q : ℕ) → acts (slice_index_or ls q I) ≡ true → LetterIn ls
 letter_at [] zero e = absurd (false≢true e)
 letter_at [] (suc q) e = absurd (false≢true e)
 letter_at (I ∷ ls) zero e = absurd (false≢true e)
-letter_at (X ∷ ls) zero e = (0, X, refl, λ s. cc)
-letter_at (Y ∷ ls) zero e = (0, Y, refl, λ s. cc)
-letter_at (Z ∷ ls) zero e = (0, Z, refl, λ s. cc)
+letter_at (X ∷ ls) zero e = (0, (X, refl, λ s. cc))
+letter_at (Y ∷ ls) zero e = (0, (Y, refl, λ s. cc))
+letter_at (Z ∷ ls) zero e = (0, (Z, refl, λ s. cc))
 letter_at (a ∷ ls) (suc q) e = one_later a ls (letter_at ls q e)
 
 -- an item acts on some qubit
@@ -86,14 +50,13 @@ abbrev Acts : Item → Type 0
 Acts i = (q : ℕ) × IsTrue (acts_at (axis_of i) q)
 
 abbrev Lettered : Static → Type 0
-Lettered s = (q : ℕ) × HasLetterAt s.axis q
+Lettered s = IsNotIdentity s.axis
 
 pulled : (ts : List Turn) (axis : Signed) (k : Kind) (i : Item) (is : List Item) → axis_of i ≡ axis → All Acts (i ∷ is) → Lettered (record { axis = pull ts axis; kind = k })
 pulled ts axis k i is e h =
     let x = All-head Acts i is h in
     let acting : acts_at axis x.0 ≡ true = ap (λ (a : Signed). acts_at a x.0) (sym e) ∙ x.1 in
-    let y = pull_letter ts axis (letter_at axis.letters x.0 acting) in
-    (y.0, (y.1, y.2, y.3))
+    pull_letters ts axis (letter_at axis.letters x.0 acting)
 
 first_or_later : (s : Static) (ss : List Static) → Lettered s → HaveLetters ss → HaveLetters (s ∷ ss)
 first_or_later s ss here later zero t e = subst Lettered (same_Some s t e) here
@@ -115,7 +78,7 @@ abbrev Long : ℕ → Static → Type 0
 Long n s = OfLength n s.axis
 
 longer : (n : ℕ) (ts : List Turn) (axis : Signed) (a : Angle) → TurnsOfLength n ts → OfLength n axis → TurnsOfLength n (ts ++ turn axis a ∷ [])
-longer n ts axis a t e = turns_append n ts (turn axis a ∷ []) t (All-cons (λ (t : Turn). OfLength n t.axis) (turn axis a) [] e (All-nil (λ (t : Turn). OfLength n t.axis)))
+longer n ts axis a t e = All-append (λ (t : Turn). OfLength n t.axis) ts (turn axis a ∷ []) t (All-cons (λ (t : Turn). OfLength n t.axis) (turn axis a) [] e (All-nil (λ (t : Turn). OfLength n t.axis)))
 
 head_long : (n : ℕ) (i : Item) (is : List Item) → AxesOfLength n (i ∷ is) → OfLength n (axis_of i)
 head_long n i is h = All-head (λ (i : Item). OfLength n (axis_of i)) i is h
@@ -126,15 +89,15 @@ tail_long n i is h = All-tail (λ (i : Item). OfLength n (axis_of i)) i is h
 long_from : (n : ℕ) (ts : List Turn) (is : List Item) → TurnsOfLength n ts → AxesOfLength n is → All (Long n) (statics_from ts is)
 long_from n ts [] t h = All-nil (Long n)
 long_from n ts (item.Turn axis Eighth ∷ is) t h =
-    All-cons (Long n) _ _ (length_pull n ts axis t (head_long n (item.Turn axis Eighth) is h)) (long_from n ts is t (tail_long n (item.Turn axis Eighth) is h))
+    All-cons (Long n) _ _ (pull_length n ts axis t (head_long n (item.Turn axis Eighth) is h)) (long_from n ts is t (tail_long n (item.Turn axis Eighth) is h))
 long_from n ts (item.Turn axis Quarter ∷ is) t h =
     long_from n (ts ++ turn axis quarter ∷ []) is (longer n ts axis quarter t (head_long n (item.Turn axis Quarter) is h)) (tail_long n (item.Turn axis Quarter) is h)
 long_from n ts (item.Turn axis Half ∷ is) t h =
     long_from n (ts ++ turn axis half ∷ []) is (longer n ts axis half t (head_long n (item.Turn axis Half) is h)) (tail_long n (item.Turn axis Half) is h)
 long_from n ts (item.Measure axis bit ∷ is) t h =
-    All-cons (Long n) _ _ (length_pull n ts axis t (head_long n (item.Measure axis bit) is h)) (long_from n ts is t (tail_long n (item.Measure axis bit) is h))
+    All-cons (Long n) _ _ (pull_length n ts axis t (head_long n (item.Measure axis bit) is h)) (long_from n ts is t (tail_long n (item.Measure axis bit) is h))
 long_from n ts (item.If axis first size value ∷ is) t h =
-    All-cons (Long n) _ _ (length_pull n ts axis t (head_long n (item.If axis first size value) is h)) (long_from n ts is t (tail_long n (item.If axis first size value) is h))
+    All-cons (Long n) _ _ (pull_length n ts axis t (head_long n (item.If axis first size value) is h)) (long_from n ts is t (tail_long n (item.If axis first size value) is h))
 
 pub axes_long : (n : ℕ) (is : List Item) → AxesOfLength n is → All (λ s. OfLength n s.axis) (statics_from [] is)
 axes_long n is h = long_from n [] is (All-nil (λ (t : Turn). OfLength n t.axis)) h

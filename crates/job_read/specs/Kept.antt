@@ -1,8 +1,6 @@
 -- What each accepted circuit and each job keeps: all that the calls that carry a job out ask of it.
-use Rattle.std.specs.Prelude.{◌≡◌, ◌≢◌, ℕ, true, ◌≤◌, IsTrue, List, length, slice_get, All, Some}
-use Rattle.pauli_product.specs.declared.Letter.{Letter}
-use Rattle.pauli_product.specs.declared.Letter.TheVariants as letter
-use Rattle.pauli_product.specs.Signed.{Signed, OfLength}
+use Rattle.std.specs.Prelude.{◌≡◌, ℕ, true, ◌≤◌, IsTrue, List, length, slice_get, All, Some}
+use Rattle.pauli_product.specs.Signed.{OfLength, IsNotIdentity}
 use Rattle.source_model.specs.declared.Circuit.{Circuit}
 use Rattle.source_model.specs.declared.Kind.TheVariants as kind
 use Rattle.source_model.specs.declared.Static.{Static}
@@ -21,13 +19,9 @@ pub record IsCircuit (c : Circuit) : Type 0 where
   pub few_products : length (kinds c.items) ≤ 16384
   pub letters : All (λ i. (q : ℕ) × IsTrue (acts_at (axis_of i) q)) c.items
 
--- the axis has a letter other than I at the qubit
-abbrev pub HasLetterAt : Signed → ℕ → Type 0
-HasLetterAt axis q = (l : Letter) × (slice_get axis.letters q ≡ Some l) × (l ≢ letter.I)
-
 -- each axis has a letter other than I
 abbrev pub HaveLetters : List Static → Type 0
-HaveLetters products = (p : ℕ) (s : Static) → slice_get products p ≡ Some s → (q : ℕ) × HasLetterAt s.axis q
+HaveLetters products = (p : ℕ) (s : Static) → slice_get products p ≡ Some s → IsNotIdentity s.axis
 
 -- a job's circuit and products, a layout that is open for them, and outcomes of their kinds, all within the limits
 pub record IsJob (job : Job) : Type 0 where

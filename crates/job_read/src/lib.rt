@@ -8,8 +8,6 @@ mod limited;
 mod lists;
 mod outcomes;
 mod read;
-#[cfg(test)]
-mod tests;
 
 pub use circuit::load_circuit;
 pub use fault::JobFault;

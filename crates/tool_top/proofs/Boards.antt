@@ -3,10 +3,10 @@ use Rattle.std.proofs.Common.{◌≡◌, ◌≢◌, ℕ, List, slice_get, slice_
 use Rattle.std.proofs.lemmas.Option.{get_or_from_slice_get}
 use Rattle.pauli_product.specs.declared.Letter.{Letter}
 use Rattle.pauli_product.specs.declared.Letter.TheVariants.{I, X, Y, Z}
-use Rattle.pauli_product.specs.Signed.{Signed}
+use Rattle.pauli_product.specs.Signed.{Signed, HasLetter}
 use Rattle.source_model.specs.Used.{acts, acts_at}
 use Rattle.job_read.specs.declared.Job.{Job}
-use Rattle.job_read.specs.Kept.{IsJob, HasLetterAt}
+use Rattle.job_read.specs.Kept.{IsJob}
 use Rattle.job_read.specs.Stages.{wanted_by}
 use Rattle.tool_top.specs.Carried.{HasBoard, parts_job}
 
@@ -16,7 +16,7 @@ acting X other = refl
 acting Y other = refl
 acting Z other = refl
 
-acts_there : (axis : Signed) (q : ℕ) → HasLetterAt axis q → IsTrue (acts_at axis q)
+acts_there : (axis : Signed) (q : ℕ) → HasLetter axis q → IsTrue (acts_at axis q)
 acts_there axis q (l, at, other) = subst (λ (m : Letter). IsTrue (acts m)) (sym (get_or_from_slice_get axis.letters q l I at)) (acting l other)
 
 pub job_board : (job : Job) → IsJob job → HasBoard (parts_job job.layout job.products job.outcomes.fails)

@@ -10,8 +10,6 @@ mod saying;
 mod schedule;
 mod serial;
 mod slices;
-#[cfg(test)]
-mod tests;
 mod top;
 mod verify;
 
