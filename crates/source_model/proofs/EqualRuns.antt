@@ -3,10 +3,9 @@ use Rattle.std.proofs.Common.{◌≡◌, ℕ, Bool, true, false, List, [], ◌�
 use Rattle.std.proofs.lemmas.List.Elements.{All-nil, All-head, All-tail, All-push}
 use Rattle.pauli_product.specs.Signed.{Signed, OfLength}
 use Rattle.pauli_product.specs.Bits.{number_of}
-use Rattle.pauli_product.specs.Pulls.{Angle, Turn, turn, quarter, half, conj, pull, TurnsOfLength}
+use Rattle.pauli_product.specs.Pulls.{Angle, Turn, turn, quarter, half, conj, pull, TurnsOfLength, SameAngles}
 use Rattle.pauli_product.specs.Corrections.{effective, corrections}
-use Rattle.pauli_product.proofs.Algebra.{length_conj}
-use Rattle.pauli_product.proofs.Turns.{pull-append, pull_through, turns_about, length_pull, SameAngles, same_angles_about, same_corrections}
+use Rattle.pauli_product.proofs.Laws.{conj_length, pull_cut, pull_turns, about_long, pull_length, alike_about, corrections_alike}
 use Rattle.source_model.specs.declared.Angle.TheVariants.{Eighth, Quarter, Half}
 use Rattle.source_model.specs.declared.Item.{Item}
 use Rattle.source_model.specs.declared.Item.TheVariants as item
@@ -26,9 +25,9 @@ record Tied (n : ℕ) (own : List Turn) (f g : Progress) : Type 0 where
 own_next : (n : ℕ) (own : List Turn) (f g : Progress) (axis : Signed) (a : Angle) → OfLength n axis → Tied n own f g → Tied n (own ++ turn axis a ∷ []) (turned (turn axis a ∷ []) f) g
 own_next n own f g axis a e t = record {
   pulls = λ p l.
-      pull-append f.turns (turn axis a ∷ []) p
-      ∙ t.pulls (conj axis a p) (length_conj n axis a p e l)
-      ∙ ap (pull g.turns) (sym (pull-append own (turn axis a ∷ []) p));
+      pull_cut f.turns (turn axis a ∷ []) p
+      ∙ t.pulls (conj axis a p) (conj_length n axis a p e l)
+      ∙ ap (pull g.turns) (sym (pull_cut own (turn axis a ∷ []) p));
   writes = t.writes;
   long = All-push (λ u. OfLength n u.axis) own (turn axis a) t.long e;
 }
@@ -37,11 +36,11 @@ own_next n own f g axis a e t = record {
 left_next : (n : ℕ) (own : List Turn) (f g : Progress) (axis : Signed) (us ts : List Turn) → OfLength n axis → SameAngles (pull own axis) axis ts us → Tied n own f g → Tied n own (turned us f) (turned ts g)
 left_next n own f g axis us ts e s t = record {
   pulls = λ p l.
-      let about = same_angles_about (pull own axis) axis ts us s in
-      pull-append f.turns us p
-      ∙ t.pulls (pull us p) (length_pull n us p (turns_about n axis us e about.1) l)
-      ∙ ap (pull g.turns) (pull_through n own axis ts us p t.long e l s)
-      ∙ sym (pull-append g.turns ts (pull own p));
+      let about = alike_about (pull own axis) axis ts us s in
+      pull_cut f.turns us p
+      ∙ t.pulls (pull us p) (pull_length n us p (about_long n axis us e about.1) l)
+      ∙ ap (pull g.turns) (pull_turns n own axis ts us p t.long e l s)
+      ∙ sym (pull_cut g.turns ts (pull own p));
   writes = t.writes;
   long = t.long;
 }
@@ -52,7 +51,7 @@ written_next n own f g bit x y e t = record { pulls = t.pulls; writes = ap₂ (�
 eighth_next : (n : ℕ) (own : List Turn) (f g : Progress) (axis : Signed) (raw x : Bool) → OfLength n axis → Tied n own f g → Tied n own (turned (corrections (axis_in f axis) axis raw x) f) (turned (corrections (axis_in g (pull own axis)) (pull own axis) raw x) g)
 eighth_next n own f g axis raw x e t =
     let a = axis_in f axis in
-    rw (← (t.pulls axis e)) (left_next n own f g axis (corrections a axis raw x) (corrections a (pull own axis) raw x) e (same_corrections a (pull own axis) axis raw x) t)
+    rw (← (t.pulls axis e)) (left_next n own f g axis (corrections a axis raw x) (corrections a (pull own axis) raw x) e (corrections_alike a (pull own axis) axis raw x) t)
 
 settled_next : (n : ℕ) (own : List Turn) (f g : Progress) (axis : Signed) (first size value : ℕ) → OfLength n axis → Tied n own f g →
     Tied n own (if flips f first size value then turned (turn axis half ∷ []) f else f) (if flips g first size value then turned (turn (pull own axis) half ∷ []) g else g)

@@ -8,3 +8,4 @@ pub mod Pulling
 pub mod Keeping
 pub mod Playing
 pub mod Truncating
+pub mod Laws

@@ -6,7 +6,7 @@ use Rattle.std.proofs.lemmas.List.Elements.{All-nil, All-get_or}
 use Rattle.pauli_product.specs.Signed.{Signed, OfLength}
 use Rattle.pauli_product.specs.Pulls.{Turn, TurnsOfLength, turn, quarter, half, pull}
 use Rattle.pauli_product.specs.Corrections.{corrections}
-use Rattle.pauli_product.proofs.Turns.{turns_append, turns_about, same_angles_about, same_corrections}
+use Rattle.pauli_product.proofs.Laws.{turns_joined, about_long, alike_about, corrections_alike}
 use Rattle.source_model.specs.declared.Angle.TheVariants.{Eighth, Quarter, Half}
 use Rattle.source_model.specs.declared.Item.{Item}
 use Rattle.source_model.specs.declared.Item.TheVariants as item
@@ -20,12 +20,12 @@ use Rattle.source_model.specs.SourceRun.{Progress, fresh, turned, after, flips, 
 
 -- ---- turns of one length
 one_fits : (n : ℕ) (f : Progress) (t : Turn) → OfLength n t.axis → TurnsOfLength n f.turns → TurnsOfLength n (f.turns ++ t ∷ [])
-one_fits n f t e h = turns_append n f.turns (t ∷ []) h (turns_about n t.axis (t ∷ []) e (refl, tt))
+one_fits n f t e h = turns_joined n f.turns (t ∷ []) h (about_long n t.axis (t ∷ []) e (refl, tt))
 
 corrections_fit : (n : ℕ) (executed axis : Signed) (raw x : Bool) → OfLength n axis → TurnsOfLength n (corrections executed axis raw x)
 corrections_fit n executed axis raw x e =
     let us = corrections executed axis raw x in
-    turns_about n axis us e (same_angles_about axis axis us us (same_corrections executed axis axis raw x)).1
+    about_long n axis us e (alike_about axis axis us us (corrections_alike executed axis axis raw x)).1
 
 settled_fits : (n : ℕ) (f : Progress) (axis : Signed) (b : Bool) → OfLength n axis → TurnsOfLength n f.turns → TurnsOfLength n (if b then turned (turn axis half ∷ []) f else f).turns
 settled_fits n f axis true e h = one_fits n f (turn axis half) e h
@@ -33,7 +33,7 @@ settled_fits n f axis false e h = h
 
 after_fits : (n : ℕ) (f : Progress) (i : Item) (g : Given) → OfLength n (axis_of i) → TurnsOfLength n f.turns → TurnsOfLength n (after f i g).turns
 after_fits n f (item.Turn axis Eighth) g e h =
-    turns_append n f.turns (corrections (axis_in f axis) axis (raw_of g) (x_of g)) h (corrections_fit n (axis_in f axis) axis (raw_of g) (x_of g) e)
+    turns_joined n f.turns (corrections (axis_in f axis) axis (raw_of g) (x_of g)) h (corrections_fit n (axis_in f axis) axis (raw_of g) (x_of g) e)
 after_fits n f (item.Turn axis Quarter) g e h = one_fits n f (turn axis quarter) e h
 after_fits n f (item.Turn axis Half) g e h = one_fits n f (turn axis half) e h
 after_fits n f (item.Measure axis bit) g e h = h

@@ -6,7 +6,7 @@ use Rattle.pauli_product.specs.Letters.{letter_product}
 use Rattle.pauli_product.specs.Signed.{Signed, commute, letters_product}
 use Rattle.pauli_product.specs.Pulls.{Angle, Turn, turn, quarter, half, conj, moved, pull}
 use Rattle.pauli_product.specs.Corrections.{effective, turn_if, corrections}
-use Rattle.pauli_product.proofs.Algebra.{conj_commuting, conj_moved}
+use Rattle.pauli_product.proofs.Laws.{conj_idle, conj_moves}
 use Rattle.source_model.specs.declared.Angle.TheVariants.{Eighth}
 use Rattle.source_model.specs.declared.Item.{Item}
 use Rattle.source_model.specs.declared.Item.TheVariants as item
@@ -47,8 +47,8 @@ conj_acts : (q : ℕ) (a : Angle) (axis p : Signed) → Leaves q a axis → acts
 conj_acts q a axis p h e = cases (commute axis p) refl
   where
     cases : (b : Bool) → commute axis p ≡ b → acts_at (conj axis a p) q ≡ false
-    cases true c = rw (conj_commuting axis a p c) e
-    cases false c = rw (conj_moved axis a p c) (moved_acts q a axis p h e)
+    cases true c = rw (conj_idle axis a p c) e
+    cases false c = rw (conj_moves axis a p c) (moved_acts q a axis p h e)
 
 abbrev LeaveAll : ℕ → List Turn → Type 0
 LeaveAll q [] = Unit {0}

@@ -1,22 +1,23 @@
 -- The bits that effective outcomes leave.
-use Rattle.std.specs.Prelude.{◌≡◌, ℕ, Bool, false, ◌==◌, if◌then◌else◌, List, [], ◌∷◌, map, slice_index_or}
+use Rattle.std.specs.Prelude.{◌≡◌, ℕ, Bool, false, if◌then◌else◌, List, [], ◌∷◌, map, slice_index_or}
 use Rattle.std.specs.List.{range_with_len}
 use Rattle.pauli_product.specs.Signed.{Signed}
 use Rattle.pauli_product.specs.Corrections.{effective}
+use Rattle.pauli_product.specs.Commuting.{is_written}
 use Rattle.source_model.specs.declared.Given.{Given}
 use Rattle.source_model.specs.declared.Item.{Item}
 use Rattle.source_model.specs.declared.Kind.{Kind}
-use Rattle.source_model.specs.declared.Kind.TheVariants as kind
 use Rattle.source_model.specs.declared.Register.{Register}
 use Rattle.source_model.specs.Circuits.{bits_in}
 use Rattle.source_model.specs.Outcomes.{raw_of}
 use Rattle.source_model.specs.SourceRun.{bit_after}
+use Rattle.source_model.specs.Statics.{uses_of}
 
 -- the bits of the registers after the run, in order
 abbrev pub bits_after : List Register → List Item → List Given → List Bool
 bits_after registers items gs = map (bit_after items gs) (range_with_len 0 (bits_in registers))
 
--- a table of the bits behind the run; a bit past the table is unwritten
+-- a table of the bits after the run; a bit past the table is unwritten
 abbrev pub BitsAre : List Bool → List Item → List Given → Type 0
 BitsAre bits items gs = (b : ℕ) → slice_index_or bits b false ≡ bit_after items gs b
 
@@ -28,11 +29,9 @@ effective_outcomes (a ∷ as') (g ∷ gs) = effective a (raw_of g) ∷ effective
 
 -- whether a product measures into the bit
 abbrev pub writes : Kind → ℕ → Bool
-writes kind.Rotation bit = false
-writes (kind.Measure b) bit = b == bit
-writes (kind.Settle first size value) bit = false
+writes k bit = is_written (uses_of k).write bit
 
--- a bit behind products of these kinds and outcomes, with the value that it had before them
+-- a bit after products of these kinds and outcomes, with the value that it had before them
 abbrev pub bit_behind : Bool → ℕ → List Kind → List Bool → Bool
 bit_behind before bit [] os = before
 bit_behind before bit (k ∷ ks) [] = before

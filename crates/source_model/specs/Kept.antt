@@ -16,7 +16,7 @@ pub record Keeps (f : Progress) (turns : List Turn) (bits : List Bool) : Type 0 
   pub same_turns : turns ≡ f.turns
   pub same_bits : (b : ℕ) → slice_index_or bits b false ≡ bit_of f.writes b
 
--- the axis of an item's product behind these turns
+-- the axis of an item's product after these turns
 abbrev pub product_axis : List Turn → Item → Option Signed
 product_axis turns i = if is_product i then Some (pull turns (axis_of i)) else None
 

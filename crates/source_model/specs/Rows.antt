@@ -1,30 +1,36 @@
 -- Worked examples.
 use Rattle.std.specs.Prelude.{◌≡◌, true, false, [], ◌∷◌, List, refl}
-use Rattle.pauli_product.specs.declared.Letter.{Letter}
 use Rattle.pauli_product.specs.declared.Letter.TheVariants.{I, X, Y, Z}
-use Rattle.pauli_product.specs.Signed.{Signed, commute}
+use Rattle.pauli_product.specs.Signed.{plus, minus, commute}
 use Rattle.pauli_product.specs.Pulls.{conj}
 use Rattle.source_model.specs.declared.Angle.TheVariants.{Eighth, Quarter}
 use Rattle.source_model.specs.declared.Item.TheVariants.{Turn, Measure}
 use Rattle.source_model.specs.declared.Circuit.{Circuit}
+use Rattle.source_model.specs.declared.Given.{Given}
 use Rattle.source_model.specs.declared.Given.TheVariants as given
 use Rattle.source_model.specs.declared.Item.TheVariants as item
 use Rattle.source_model.specs.declared.Kind.TheVariants as kind
 use Rattle.source_model.specs.SourceRun.{axes, bit_after}
 use Rattle.source_model.specs.Statics.{statics}
 
-abbrev plus : List Letter → Signed
-plus ls = record { sign = false; letters = ls }
+-- rotations about +Z and +X and a measurement of +X into a register of one bit
+abbrev pub three_products : Circuit
+three_products = record {
+  qubits = 1;
+  registers = record { name = 99 ∷ []; first = 0; size = 1 } ∷ [];
+  items = Turn (plus (Z ∷ [])) Eighth ∷ Turn (plus (X ∷ [])) Eighth ∷ Measure (plus (X ∷ [])) 0 ∷ [];
+  hidden = 0;
+}
 
-abbrev minus : List Letter → Signed
-minus ls = record { sign = true; letters = ls }
+-- with outcomes (1, 0), (0, 0), 0
+abbrev three_outcomes : List Given
+three_outcomes = given.Rotation true false ∷ given.Rotation false false ∷ given.Measure false ∷ []
 
--- r +Z, r +X, m +X with outcomes (1, 0), (0, 0), 0
-pub three : axes (Turn (plus (Z ∷ [])) Eighth ∷ Turn (plus (X ∷ [])) Eighth ∷ Measure (plus (X ∷ [])) 0 ∷ []) (given.Rotation true false ∷ given.Rotation false false ∷ given.Measure false ∷ []) ≡ plus (Z ∷ []) ∷ minus (Y ∷ []) ∷ minus (Y ∷ []) ∷ []
+pub three : axes three_products.items three_outcomes ≡ plus (Z ∷ []) ∷ minus (Y ∷ []) ∷ minus (Y ∷ []) ∷ []
 unfolding conj commute
 three = refl
 
-pub three_bit : bit_after (Turn (plus (Z ∷ [])) Eighth ∷ Turn (plus (X ∷ [])) Eighth ∷ Measure (plus (X ∷ [])) 0 ∷ []) (given.Rotation true false ∷ given.Rotation false false ∷ given.Measure false ∷ []) 0 ≡ true
+pub three_bit : bit_after three_products.items three_outcomes 0 ≡ true
 unfolding conj commute
 three_bit = refl
 

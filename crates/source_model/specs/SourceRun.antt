@@ -59,7 +59,7 @@ abbrev pub next_of : List Given → Given
 next_of [] = Settled
 next_of (g ∷ gs) = g
 
--- the table behind its head
+-- the table after its head
 abbrev pub rest_of : List Given → List Given
 rest_of [] = []
 rest_of (g ∷ gs) = gs

@@ -1,15 +1,16 @@
 -- The static products of a circuit: its eighths, measurements and settled products, each pulled through the Cliffords before it.
-use Rattle.std.specs.Prelude.{ℕ, Bool, false, ◌+◌, ◌&&◌, not, nat_le, nat_lt, List, [], ◌∷◌, ◌++◌, map}
+use Rattle.std.specs.Prelude.{ℕ, Bool, false, Some, None, List, [], ◌∷◌, ◌++◌, map}
 use Rattle.source_model.specs.declared.Angle.TheVariants.{Eighth, Quarter, Half}
 use Rattle.source_model.specs.declared.Item.{Item}
 use Rattle.source_model.specs.declared.Item.TheVariants as item
 use Rattle.source_model.specs.declared.Kind.{Kind}
 use Rattle.source_model.specs.declared.Kind.TheVariants as kind
 use Rattle.source_model.specs.declared.Static.{Static}
-use Rattle.pauli_product.specs.Signed.{commute}
+use Rattle.pauli_product.specs.Commuting.{BitUses, is_among}
+use Rattle.pauli_product.specs.Commuting as uses
 use Rattle.pauli_product.specs.Pulls.{Turn, turn, quarter, half, pull}
 
--- the static products of items behind these Cliffords
+-- the static products of items after these Cliffords
 abbrev pub statics_from : List Turn → List Item → List Static
 statics_from turns [] = []
 statics_from turns (item.Turn axis Eighth ∷ is) = record { axis = pull turns axis; kind = kind.Rotation } ∷ statics_from turns is
@@ -34,18 +35,20 @@ static_items products = map item_of products
 abbrev pub kinds_of : List Static → List Kind
 kinds_of products = map (λ s. s.kind) products
 
+-- the bits that a product of a kind reads and writes
+abbrev pub uses_of : Kind → BitUses
+uses_of kind.Rotation = record { reads = λ bit. false; write = None }
+uses_of (kind.Measure b) = record { reads = λ bit. false; write = Some b }
+uses_of (kind.Settle first size value) = record { reads = is_among first size; write = None }
+
 -- whether a product of kind k reads the bit
 abbrev pub reads : Kind → ℕ → Bool
-reads kind.Rotation bit = false
-reads (kind.Measure b) bit = false
-reads (kind.Settle first size value) bit = nat_le first bit && nat_lt bit (first + size)
+reads k bit = (uses_of k).reads bit
 
 -- whether one product reads a bit that the other writes
 abbrev pub reads_from : Kind → Kind → Bool
-reads_from k kind.Rotation = false
-reads_from k (kind.Measure bit) = reads k bit
-reads_from k (kind.Settle first size value) = false
+reads_from k l = uses.reads_from (uses_of k) (uses_of l)
 
 -- products commute where their axes do and neither reads a bit that the other writes
 abbrev pub commuting : Static → Static → Bool
-commuting s t = commute s.axis t.axis && not (reads_from s.kind t.kind) && not (reads_from t.kind s.kind)
+commuting s t = uses.commuting s.axis (uses_of s.kind) t.axis (uses_of t.kind)

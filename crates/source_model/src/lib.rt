@@ -4,13 +4,13 @@
 //! pi/8 rotations and measurements are pulled through the Clifford rotations before them.
 #![tactic(auto)]
 
-mod laws;
+mod law;
 mod lists;
 mod plain;
 #[cfg(test)]
 mod tests;
 
-pub use laws::{law_bits, law_equal_runs, law_kinds, law_later_outcomes, law_used};
+pub use law::{law_bits, law_equal_runs, law_kinds, law_later_outcomes, law_used};
 pub use lists::{Items, Name, Registers};
 use pauli_product::Product;
 pub use plain::{axes_plain, bits_plain};
@@ -25,7 +25,7 @@ pub enum Angle {
 
 /// One operation of a circuit, about a signed axis.
 ///
-/// Bits are numbered over the registers in order of declaration, and hidden bits stand behind them.
+/// Bits are numbered over the registers in order of declaration, and hidden bits come after them.
 #[derive(Drop)]
 pub enum Item {
     /// A rotation.

@@ -22,7 +22,7 @@ use std::marker::Model;
 ///
 /// # Errors
 ///
-/// `Memory` where memory is wanting.
+/// `Memory` when out of memory.
 pub fn axes_plain(alloc: Global, circuit: &Circuit, given: &[Given]) -> Result<Vec<Product>, Memory>
     requires well_formed { WellFormed circuit.now }
     requires right_kinds { RightKinds circuit.now.items given.now }
@@ -36,7 +36,7 @@ pub fn axes_plain(alloc: Global, circuit: &Circuit, given: &[Given]) -> Result<V
 ///
 /// # Errors
 ///
-/// `Memory` where memory is wanting.
+/// `Memory` when out of memory.
 pub fn bits_plain(alloc: Global, circuit: &Circuit, given: &[Given]) -> Result<Vec<bool>, Memory>
     requires well_formed { WellFormed circuit.now }
     requires right_kinds { RightKinds circuit.now.items given.now }
@@ -49,7 +49,7 @@ pub fn bits_plain(alloc: Global, circuit: &Circuit, given: &[Given]) -> Result<V
     Ok(bits)
 }
 
-// The axes of a whole run, and all bits behind it.
+// The axes of a whole run, and all bits after it.
 #[derive(Drop)]
 struct Played {
     axes: Vec<Product>,
@@ -98,7 +98,7 @@ fn register_bits(registers: &[Register]) -> usize
     bits
 }
 
-// The outcome at a place of the table, and none behind it.
+// The outcome at a place of the table, and none past it.
 fn outcome_at(given: &[Given], place: usize) -> Given
     ensures { result ≡ next_of (drop place given.now) }
 {
@@ -144,7 +144,7 @@ impl Model for Clifford {
 }
 
 impl Clifford {
-    // Moves the rotation behind a product.
+    // Moves the rotation to after a product.
     fn act_on(&self, p: &mut Product)
         requires { length p.old.letters ≡ length self.now.axis.letters }
         ensures { p.new ≡ conj self.now.axis self.now.angle p.old }

@@ -1,5 +1,5 @@
-use Rattle.source_model.proofs.LastOutcomes.{bit_is_last_outcome}
-use Rattle.source_model.proofs.laws.law_bits.Goals as goal
+use Rattle.source_model.proofs.Laws.{bits_last}
+use Rattle.source_model.proofs.law.law_bits.Goals as goal
 
 pub returns : goal.returns
-returns c = bit_is_last_outcome
+returns c = bits_last

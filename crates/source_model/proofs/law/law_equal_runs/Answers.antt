@@ -1,5 +1,5 @@
-use Rattle.source_model.proofs.EqualRuns.{statics_run_alike, statics_write_alike}
-use Rattle.source_model.proofs.laws.law_equal_runs.Goals as goal
+use Rattle.source_model.proofs.Laws.{statics_run_alike, statics_write_alike}
+use Rattle.source_model.proofs.law.law_equal_runs.Goals as goal
 
 pub returns-clause-axes : goal.returns-clause-axes
 returns-clause-axes c = statics_run_alike

@@ -1,5 +1,5 @@
-use Rattle.source_model.proofs.SameKinds.{statics_keep_kinds, static_items_keep_kinds, statics_stay}
-use Rattle.source_model.proofs.laws.law_kinds.Goals as goal
+use Rattle.source_model.proofs.Laws.{statics_keep_kinds, static_items_keep_kinds, statics_stay}
+use Rattle.source_model.proofs.law.law_kinds.Goals as goal
 
 pub returns-clause-statics : goal.returns-clause-statics
 returns-clause-statics c = statics_keep_kinds

@@ -1,5 +1,5 @@
-use Rattle.source_model.proofs.EarlierOutcomes.{same_axis}
-use Rattle.source_model.proofs.laws.law_later_outcomes.Goals as goal
+use Rattle.source_model.proofs.Laws.{later_outcomes}
+use Rattle.source_model.proofs.law.law_later_outcomes.Goals as goal
 
 pub returns : goal.returns
-returns c = same_axis
+returns c = later_outcomes

@@ -1,5 +1,5 @@
-use Rattle.source_model.proofs.UsedQubits.{acts_on_used}
-use Rattle.source_model.proofs.laws.law_used.Goals as goal
+use Rattle.source_model.proofs.Laws.{axes_on_used}
+use Rattle.source_model.proofs.law.law_used.Goals as goal
 
 pub returns : goal.returns
-returns c = acts_on_used
+returns c = axes_on_used

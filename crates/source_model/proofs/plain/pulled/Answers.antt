@@ -1,6 +1,6 @@
 use Rattle.std.proofs.Common.{◌≡◌, ◌-◌, ◌<◌, suc, length, arith, ap, ◌∙◌}
 use Rattle.pauli_product.specs.Pulls.{conj}
-use Rattle.pauli_product.proofs.Algebra.{length_conj}
+use Rattle.pauli_product.proofs.Laws.{conj_length}
 use Rattle.source_model.proofs.Pulling.{pull_drop, length_of_turn}
 use Rattle.source_model.proofs.plain.pulled.Goals as goal
 
@@ -18,5 +18,5 @@ loop-i-preserved c =
           c.act_on.ensures
           ∙ ap (conj t.axis t.angle) c.loop-i.invariant.acted
           ∙ pull_drop turns (i - 1) i t c.args.p.now step within c.index-turns-i.is;
-      long = ap (λ q. length q.letters) c.act_on.ensures ∙ length_conj n t.axis t.angle c.loop-i.image fits c.loop-i.invariant.long;
+      long = ap (λ q. length q.letters) c.act_on.ensures ∙ conj_length n t.axis t.angle c.loop-i.image fits c.loop-i.invariant.long;
     }
