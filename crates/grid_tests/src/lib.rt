@@ -1,0 +1,11 @@
+//! Tests of layouts, certificates and plans through the public calls that no command reaches alone.
+#![tactic(auto)]
+
+#[cfg(test)]
+mod certificates;
+#[cfg(test)]
+mod layouts;
+#[cfg(test)]
+mod looks;
+#[cfg(test)]
+mod plans;
