@@ -146,5 +146,5 @@ pub step_accepted : (b : Position) (f : ℕ) (makers : List Maker) (why : BoardS
 step_accepted b f makers step.NoFactory has a r = r a.1.0 (a.1.1, a.0, a.1.2)
 step_accepted b f makers (step.Stocked n) has a r =
     let here = ((has f a.0).0 a.1).0 in
-    let there = ((has f r.0).0 r.1).0 in
-    elim a.2 [ inl x ↦ x r.2 | inr x ↦ (let m = r.3 in let l = r.4 in omega arith) ]
+    let there = ((has f n).0 r.0).0 in
+    elim a.2 [ inl x ↦ x r.1 | inr x ↦ (let m = r.2 in omega arith) ]

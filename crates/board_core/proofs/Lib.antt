@@ -32,4 +32,6 @@ pub mod Judged
 pub mod Accepted
 pub mod Carried
 pub mod Gathering
+pub mod Looks
+pub mod Laws
 mod RowBoard

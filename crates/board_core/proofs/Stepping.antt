@@ -99,8 +99,9 @@ module _ (j : Job) (h : History) (t : Tables) (f : ℕ) (k : Kept j h t) where
       let l = some.1 in
       omega arith
 
-  pub step_full : (n : ℕ) (why : StepRefused) → why ≡ Stocked n → Err why ≡ step_answer t.pool.makers j.fails (steps h) (taken_states h) f → (store : ℕ) × HasStore j.grid f store × (steps_of f (steps h) % 11 ≡ 0) × (length (ready_of j.fails (steps h) (taken_states h) f) ≡ n) × (store ≤ n)
-  step_full n why is e' =
+  pub step_full : (n : ℕ) (why : StepRefused) → why ≡ Stocked n → Err why ≡ step_answer t.pool.makers j.fails (steps h) (taken_states h) f → n ≡ store_of t.pool.makers f
+      → HasStore j.grid f n × (steps_of f (steps h) % 11 ≡ 0) × (length (ready_of j.fails (steps h) (taken_states h) f) ≡ n)
+  step_full n why is e' store =
       let e = subst (λ (w : StepRefused). Err w ≡ step_answer t.pool.makers j.fails (steps h) (taken_states h) f) is e' in
       let a = answer_full j.fails f (store_of t.pool.makers f) (steps_of f (steps h)) (length (makers_of j.fails (steps h))) (length (ready_of j.fails (steps h) (taken_states h) f)) n e in
-      (store_of t.pool.makers f, (k.makers f (store_of t.pool.makers f)).1 (refl, a.0), a.1, a.2, a.3)
+      ((k.makers f n).1 (sym store, (let some = a.0 in omega arith)), a.1, a.2)

@@ -150,10 +150,11 @@ ReleaseRefusedBecause release.Undelivered b p = (p < length b.job.products) × (
 ReleaseRefusedBecause (release.Twice place) b p = IsSome (delivered (past b) p) × (release_place (past b) p ≡ Some place)
 
 -- ---- a factory's step
+-- a run would begin with a full store: the number is that of the store, and as many states are ready
 abbrev pub StepRefusedBecause : BoardStepWhy → Position → ℕ → Type 0
 StepRefusedBecause step.NoFactory b f = (c : ℕ) → IsPort b.job.grid f c → ⊥
 StepRefusedBecause (step.Stocked n) b f =
-    (store : ℕ) × HasStore b.job.grid f store × (steps_of f (steps (past b)) % 11 ≡ 0) × (length (ready b f) ≡ n) × (store ≤ n)
+    HasStore b.job.grid f n × (steps_of f (steps (past b)) % 11 ≡ 0) × (length (ready b f) ≡ n)
 
 -- what an accepted step does
 abbrev pub stepped_by : Position → ℕ → Stepped

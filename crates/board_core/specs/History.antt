@@ -9,7 +9,7 @@ use Rattle.board_core.specs.declared.Noted.{Noted}
 use Rattle.board_core.specs.declared.Entry.{Entry}
 use Rattle.board_core.specs.declared.Entry.TheVariants.{Claim, Deliver, Release, Step, Settle}
 
--- a history's entries, without the numbers of the passes that made them
+-- a history's entries, without the numbers of the workers that made them
 abbrev pub History : Type 0
 History = List Entry
 

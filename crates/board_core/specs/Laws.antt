@@ -1,5 +1,6 @@
 -- What holds of every legal history.
-use Rattle.std.specs.Prelude.{◌≡◌, ◌≢◌, ◌⊎◌, ℕ, Bool, false, ◌<◌, slice_get, List, [], ◌∷◌, ◌++◌, length, take, All, AllPairs, Some, None, IsSome}
+use Rattle.std.specs.Prelude.{◌≡◌, ◌≢◌, ◌⊎◌, ℕ, Bool, false, ◌<◌, slice_get, List, [], ◌∷◌, ◌++◌, length, take, All, AllPairs, Some, None, IsSome, is_some}
+use Rattle.std.specs.Option.{option_or}
 use Rattle.pauli_product.specs.Signed.{Signed, OfLength}
 use Rattle.pauli_product.specs.Pulls.{carry}
 use Rattle.source_model.specs.declared.Item.{Item}
@@ -8,14 +9,17 @@ use Rattle.source_model.specs.declared.Kind.{Kind}
 use Rattle.source_model.specs.declared.Kind.TheVariants as kind
 use Rattle.source_model.specs.declared.Static.{Static}
 use Rattle.source_model.specs.SourceRun.{axes, fresh, flips, progress_after}
-use Rattle.source_model.specs.Statics.{static_items, commuting}
+use Rattle.source_model.specs.Statics.{static_items, commuting, statics}
 use Rattle.source_model.specs.Circuits.{AxesOfLength, RightKinds}
 use Rattle.patch_layout.specs.Grid.{Grid}
 use Rattle.magic_pool.specs.declared.Fail.{Fail}
 use Rattle.board_core.specs.declared.Entry.{Entry}
-use Rattle.board_core.specs.History.{History, delivered, claim_place, done_place, taken_states}
+use Rattle.board_core.specs.declared.Entry.TheVariants.{Deliver}
+use Rattle.board_core.specs.declared.Noted.{Noted}
+use Rattle.board_core.specs.History.{History, entries, delivered, claim_place, done_place, release_place, taken_states}
 use Rattle.board_core.specs.Legal.{Job, AxisOf, FlipOf, Ready, Holds, Allowed, Legal, Complete}
-use Rattle.board_core.specs.Orders.{InSourceOrderUpToSwaps}
+use Rattle.board_core.specs.Orders.{InSourceOrderUpToSwaps, steps_of}
+use Rattle.trace_laws.specs.Runs.{source_axis, source_flip}
 use Rattle.board_core.specs.View.{claimed_axis, turns_of}
 use Rattle.board_core.specs.Headline.{job_of, IsOneLegalHistory}
 
@@ -63,9 +67,47 @@ EmptyIsLegal = (j : Job) → Legal j []
 abbrev pub AllowedGoesOn : Type 0
 AllowedGoesOn = (j : Job) (h : History) (e : Entry) → Legal j h → Allowed j h e → Legal j (h ++ e ∷ [])
 
--- and each entry of a legal history is allowed behind a legal history
+-- and each entry of a legal history is allowed after a legal history
 abbrev pub LegalGoesBack : Type 0
 LegalGoesBack = (j : Job) (h : History) (e : Entry) → Legal j (h ++ e ∷ []) → Legal j h × Allowed j h e
+
+-- the front of a legal history is legal
+abbrev pub FrontIsLegal : Type 0
+FrontIsLegal = (j : Job) (h : History) (n : ℕ) → Legal j h → Legal j (take n h)
+
+-- ---- what stands in a history
+-- one more entry, whoever made it
+abbrev pub EntriesGoOn : Type 0
+EntriesGoOn = (log : List Noted) (by : ℕ) (e : Entry) →
+    entries (log ++ (record { by = by; entry = e }) ∷ []) ≡ entries log ++ e ∷ []
+
+-- the first delivery of a product counts, and so does the axis of its first claim
+abbrev pub DeliveriesGoOn : Type 0
+DeliveriesGoOn = (h es : History) (p : ℕ) → delivered (h ++ es) p ≡ option_or (delivered h p) (delivered es p)
+
+abbrev pub ClaimsGoOn : Type 0
+ClaimsGoOn = (h es : History) (p : ℕ) → claimed_axis (h ++ es) p ≡ option_or (claimed_axis h p) (claimed_axis es p)
+
+-- a product has a claim exactly where it has a claimed axis
+abbrev pub ClaimsHaveAxes : Type 0
+ClaimsHaveAxes = (h : History) (p : ℕ) → is_some (claim_place h p) ≡ is_some (claimed_axis h p)
+
+-- what is delivered stands in the history
+abbrev pub DeliveriesStand : Type 0
+DeliveriesStand = (h : History) (p : ℕ) (g : Given) → delivered h p ≡ Some g →
+    (n : ℕ) × (slice_get h n ≡ Some (Deliver p g))
+
+-- what is delivered is done
+abbrev pub UndoneIsUndelivered : Type 0
+UndoneIsUndelivered = (h : History) (p : ℕ) → done_place h p ≡ None → delivered h p ≡ None
+
+-- what is released was claimed
+abbrev pub ReleasedIsClaimed : Type 0
+ReleasedIsClaimed = (j : Job) (h : History) (p : ℕ) → Legal j h → IsSome (release_place h p) → IsSome (claim_place h p)
+
+-- a table of the right kinds has one outcome for each static product
+abbrev pub TablesFit : Type 0
+TablesFit = (items : List Item) (table : List Given) → RightKinds items table → length table ≡ length (statics items)
 
 -- ---- swaps under corrections
 abbrev pub ProductsOfLength : ℕ → List Static → Type 0
@@ -80,6 +122,18 @@ abbrev pub ClaimsHaveSourceAxes : Type 0
 ClaimsHaveSourceAxes = (n : ℕ) (j : Job) (table : List Given) (h : History) (p : ℕ) (axis : Signed) →
     ProductsOfLength n j.products → length table ≡ length j.products → Legal j h → Agrees table h → claimed_axis h p ≡ Some axis →
     slice_get (axes (static_items j.products) table) p ≡ Some axis
+
+-- the source run that the laws of orders speak of is the circuit's own: it has its axes, whatever the outcomes
+abbrev pub AxesAreSourceAxes : Type 0
+AxesAreSourceAxes = (products : List Static) (table : List Given) (p : ℕ) (s : Static) →
+    length table ≡ length products → slice_get products p ≡ Some s →
+    slice_get (axes (static_items products) table) p ≡ source_axis (steps_of products table) p
+
+-- and its flips
+abbrev pub FlipsAreSourceFlips : Type 0
+FlipsAreSourceFlips = (products : List Static) (table : List Given) (p : ℕ) (s : Static) (first size value : ℕ) →
+    length table ≡ length products → slice_get products p ≡ Some s → s.kind ≡ kind.Settle first size value →
+    flips (progress_after fresh (static_items (take p products)) table) first size value ≡ source_flip (steps_of products table) p
 
 -- products are done in source order up to swaps of commuting neighbours
 abbrev pub OrderIsSourceOrderUpToSwaps : Type 0

@@ -16,3 +16,4 @@ pub mod Uses
 pub mod Kept
 pub mod Judging
 pub mod Shows
+pub mod BoardLaws

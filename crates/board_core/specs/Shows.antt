@@ -21,4 +21,5 @@ pub record Shows (b : Position) (p : ℕ) (look : Look) : Type 0 where
   pub waits : LeastWait b.job.products (past b) p look.waits
   pub axis : look.axis ≡ carry (turns_of b.job.products (past b)) static.axis
   pub held : HoldersAre b.job (past b) look.held
+  pub factories : length look.ready ≡ 16
   pub ready-are : (f : ℕ) → f < 16 → slice_get look.ready f ≡ Some (length (ready b f))

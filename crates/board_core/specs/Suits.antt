@@ -6,7 +6,7 @@ use Rattle.source_model.specs.Used.{UsedBy, acts_at}
 use Rattle.patch_layout.specs.Grid.{Grid, Wanted, Open}
 use Rattle.patch_layout.specs.Row.{IsUsed}
 
--- the qubits on which some rotation or measurement acts are among these, and where there is a rotation, rotations are wanted
+-- the qubits on which some rotation or measurement acts are among these, and where there is a rotation, rotations are asked for
 pub record Covers (products : List Static) (w : Wanted) : Type 0 where
   pub used : (q : ℕ) → UsedBy products q → IsUsed w.used q
   pub rotations : (p : ℕ) (s : Static) → slice_get products p ≡ Some s → s.kind ≡ kind.Rotation → w.rotations ≡ true

@@ -69,7 +69,7 @@ pub enum ReleaseWhy {
 pub enum BoardStepWhy {
     /// There is no such factory.
     NoFactory,
-    /// A run would begin with a full store.
+    /// A run would begin with a full store: as many states are ready as it holds.
     Stocked { ready: u32 },
 }
 

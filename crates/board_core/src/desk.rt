@@ -18,7 +18,7 @@ ghost use Rattle.board_core.specs.Laws.{Agrees, ProductsOfLength};
 ghost use Rattle.board_core.specs.History.{done_place};
 ghost use Rattle.board_core.specs.View.{claimed_axis};
 ghost use Rattle.board_core.specs.Orders.{InSourceOrderUpToSwaps};
-ghost use Rattle.pauli_product.specs.Signed.{Signed};
+ghost use Rattle.pauli_product.specs.Signed.{Signed, IsNotIdentity};
 ghost use Rattle.source_model.specs.declared.Given.{Given as Givens};
 ghost use Rattle.source_model.specs.SourceRun.{axes};
 ghost use Rattle.source_model.specs.Statics.{static_items};
@@ -144,11 +144,12 @@ impl Board {
     }
 
     /// Fills a look with what a planner for the product has to know. The look was made for this layout, and for the
-    /// number of qubits of the products, and still is.
+    /// number of qubits of the products, and still is. The axis that it shows has a letter other than I.
     pub fn look(&self, p: u32, look: &mut Look) -> Result<(), NoProduct>
         requires held { length look.old.held ≡ length self.now.job.grid.sites }
         requires axis { ProductsOfLength (length look.old.axis.letters) self.now.job.products }
         ensures shown { IfOk result (λ _. Shows self.now p look.new) }
+        ensures letter { IfOk result (λ _. IsNotIdentity look.new.axis) }
         ensures long { length look.new.axis.letters ≡ length look.old.axis.letters }
         ensures source { IfOk result (λ _. done_place (past self.now) p ≡ None → look.new.waits ≡ None → AxisOf self.now.job (past self.now) p look.new.axis) }
         ensures stays { IfOk result (λ _. (axis : Signed) → claimed_axis (past self.now) p ≡ Some axis → done_place (past self.now) p ≡ None → look.new.axis ≡ axis) }

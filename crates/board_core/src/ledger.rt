@@ -1,6 +1,6 @@
 //! What a board notes of its history, so that no call goes through it.
 
-ghost use Rattle.std.specs.Prelude.{◌≡◌, ℕ, ◌+◌, ◌-◌, ◌∷◌, ◌++◌, ◌<◌, ◌==◌, List, ◌≤◌, ◌^◌, [], length, replicate, slice_get, slice_set, true, false, All, Some, None, IfOk, OnOk, OnErr, MatchOption};
+ghost use Rattle.std.specs.Prelude.{◌≡◌, ℕ, ◌+◌, ◌-◌, ◌∷◌, ◌++◌, ◌<◌, ◌==◌, List, ◌≤◌, ◌^◌, [], length, replicate, slice_get, slice_set, true, false, All, Some, None, Err, IfOk, OnOk, OnErr, MatchOption};
 ghost use Rattle.pauli_product.specs.Signed.{OfLength};
 ghost use Rattle.board_core.specs.Laws.{ProductsOfLength};
 ghost use Rattle.pauli_product.specs.Pulls.{carry};
@@ -9,7 +9,8 @@ ghost use Rattle.source_model.specs.declared.Given.TheVariants as given;
 ghost use Rattle.source_model.specs.declared.Static.{Static as Statics};
 ghost use Rattle.frame_table.specs.Images.{qubits};
 ghost use Rattle.magic_pool.specs.Recount.{ready_of};
-ghost use Rattle.magic_pool.specs.Pooled.{HasFewer, Recounts, step_answer};
+ghost use Rattle.magic_pool.specs.Pooled.{HasFewer, Recounts, step_answer, store_of};
+ghost use Rattle.magic_pool.specs.declared.StepRefused.TheVariants.{Stocked};
 ghost use Rattle.board_core.specs.declared.Entry.TheVariants as entry;
 ghost use Rattle.board_core.specs.History.{History, steps, taken_states};
 ghost use Rattle.board_core.specs.Legal.{Allowed, ClaimCell, Job};
@@ -146,7 +147,7 @@ impl Ledger {
     /// Leaves each factory's count of ready states.
     pub fn show_ready(&self, counts: &mut [u32])
         requires { length counts.old ≡ 16 }
-        ensures { (j : Job) (h : History) → Kept j h self.now → (f : ℕ) → f < 16 → slice_get counts.new f ≡ Some (length (ready_of j.fails (steps h) (taken_states h) f)) }
+        ensures counts { (j : Job) (h : History) → Kept j h self.now → (f : ℕ) → f < 16 → slice_get counts.new f ≡ Some (length (ready_of j.fails (steps h) (taken_states h) f)) }
     {
         for f in 0..16u32 {
             counts[f as usize] = self.pool.ready(f);
@@ -256,6 +257,7 @@ impl Ledger {
     pub fn step(&mut self, f: u32) -> Result<Stepped, StepRefused>
         requires { HasFewer self.old.pool (2 ^ 32 - 1) }
         ensures answer { (j : Job) (h : History) → Kept j h self.old → result ≡ step_answer self.old.pool.makers j.fails (steps h) (taken_states h) f }
+        ensures stocked { (n : ℕ) → result ≡ Err (Stocked n) → n ≡ store_of self.old.pool.makers f }
         ensures kept { OnOk result ((j : Job) (h : History) → Kept j h self.old → Allowed j h (entry.Step f) → Kept j (h ++ entry.Step f ∷ []) self.new) }
         ensures refused { OnErr result (self.new ≡ self.old) }
     {

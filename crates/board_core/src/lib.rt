@@ -1,6 +1,6 @@
 //! The board: a legal history of claims, deliveries, releases, factory steps and settlings.
 //!
-//! Products are carried out in any order that keeps those that don't commute behind one another. The scheme is that of
+//! Products are carried out in any order that keeps those that don't commute in source order. The scheme is that of
 //! Litinski, "A Game of Surface Codes" (Quantum 3, 128, 2019), section 1.
 #![tactic(auto)]
 
@@ -11,11 +11,9 @@ mod desk;
 mod differ;
 mod frames;
 mod judging;
-mod laws;
+mod law;
 mod ledger;
 mod makers;
-#[cfg(test)]
-mod tests;
 mod waiting;
 
 pub use board::{
@@ -23,9 +21,9 @@ pub use board::{
     Differ, NoProduct, ReleaseRefused, ReleaseWhy, Standing,
 };
 pub use desk::Board;
-pub use laws::{
-    law_apart, law_axis_known, law_claims, law_frame, law_headline, law_next, law_order, law_short,
-    law_states, law_third,
+pub use law::{
+    law_apart, law_axis_known, law_claims, law_frame, law_headline, law_looks, law_next, law_order,
+    law_past, law_plans, law_short, law_source, law_states, law_third,
 };
 pub use makers::pool_of;
 use patch_layout::CellList;
@@ -65,7 +63,7 @@ pub enum Entry {
     },
 }
 
-/// An entry, with the number of the pass that made it.
+/// An entry, with the number of the worker that made it.
 #[derive(Drop)]
 pub struct Noted {
     pub by: u32,

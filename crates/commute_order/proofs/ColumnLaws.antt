@@ -8,7 +8,7 @@ use Rattle.pauli_product.specs.declared.Letter.TheVariants.{I, X, Z}
 use Rattle.pauli_product.specs.Letters.{letters_clash}
 use Rattle.pauli_product.specs.Signed.{Signed, plus, clashes, commute}
 use Rattle.pauli_product.specs.Corrections.{xor}
-use Rattle.commute_order.specs.Columns.{letter_at, IsColumns, clash_bit}
+use Rattle.commute_order.specs.Columns.{letter_in, IsColumns, clash_bit}
 
 -- an odd number of clashes
 abbrev pub odd : List Letter → List Letter → Bool
@@ -94,12 +94,12 @@ more_bits against m p len column new within long bits b e f j l =
 
 -- columns with one more product
 pub added : (against : Letter) (ps : List Signed) (p n len : ℕ) (old new : List (List Bool)) → p < len → IsColumns against ps p n len old → length new ≡ n
-    → ((q : ℕ) → q < n → get_or new q [] ≡ (if letters_clash against (letter_at ps p q) then set (get_or old q []) p true else get_or old q []))
+    → ((q : ℕ) → q < n → get_or new q [] ≡ (if letters_clash against (letter_in ps p q) then set (get_or old q []) p true else get_or old q []))
     → IsColumns against ps (p + 1) n len new
 added against ps p n len old new within c size h = record {
   size = size;
-  long = λ q k. ap length (h q k) ∙ same_length (letters_clash against (letter_at ps p q)) (get_or old q []) (c.long q k);
-  bit = λ q j k l. more_bits against (λ i. letter_at ps i q) p len (get_or old q []) (get_or new q []) within (c.long q k) (λ i m. c.bit q i k m) (letters_clash against (letter_at ps p q)) refl (h q k) j l;
+  long = λ q k. ap length (h q k) ∙ same_length (letters_clash against (letter_in ps p q)) (get_or old q []) (c.long q k);
+  bit = λ q j k l. more_bits against (λ i. letter_in ps i q) p len (get_or old q []) (get_or new q []) within (c.long q k) (λ i m. c.bit q i k m) (letters_clash against (letter_in ps p q)) refl (h q k) j l;
 }
   where
     same_length : (b : Bool) (column : List Bool) → length column ≡ len → length (if b then set column p true else column) ≡ len

@@ -2,7 +2,7 @@
 use Rattle.std.proofs.Common.{◌≡◌, ℕ, ◌<◌, Bool, true, false, not, ◌&&◌, List, [], length, get_or, Option, Some, None, MatchOption, ap, sym, ◌∙◌, arith}
 use Rattle.std.proofs.lemmas.Option.{get_or_from_slice_get, slice_get-get_or}
 use Rattle.pauli_product.specs.Signed.{Signed, plus, commute}
-use Rattle.pauli_product.proofs.Algebra.{commute_swap}
+use Rattle.pauli_product.proofs.Laws.{commuting_mutual}
 use Rattle.commute_order.specs.declared.Uses.{Uses}
 use Rattle.commute_order.specs.Words.{IsOpen}
 use Rattle.commute_order.specs.Commuting.{reads_from, commuting, commuting_at, IsOrder, WaitsOn, LeastWait}
@@ -11,7 +11,7 @@ swapped : (a b c d : Bool) → a ≡ d → a && b && c ≡ d && c && b
 swapped a b c d e = grind arith
 
 commuting_swap : (p : Signed) (u : Uses) (q : Signed) (v : Uses) → commuting p u q v ≡ commuting q v p u
-commuting_swap p u q v = swapped (commute p q) (not (reads_from u v)) (not (reads_from v u)) (commute q p) (commute_swap p q)
+commuting_swap p u q v = swapped (commute p q) (not (reads_from u v)) (not (reads_from v u)) (commute q p) (commuting_mutual p q)
 
 -- commuting goes both ways
 pub commuting_at_swap : (ps : List Signed) (us : List Uses) (i j : ℕ) → commuting_at ps us i j ≡ commuting_at ps us j i

@@ -7,14 +7,14 @@ use Rattle.pauli_product.specs.Signed.{Signed, plus}
 use Rattle.pauli_product.specs.Corrections.{xor}
 
 -- the letter of product j at qubit q
-abbrev pub letter_at : List Signed → ℕ → ℕ → Letter
-letter_at ps j q = slice_index_or (slice_index_or ps j (plus [])).letters q I
+abbrev pub letter_in : List Signed → ℕ → ℕ → Letter
+letter_in ps j q = slice_index_or (slice_index_or ps j (plus [])).letters q I
 
 -- bit j of column q says whether product j, one of the first `count`, clashes with the letter at qubit q
 pub record IsColumns (against : Letter) (ps : List Signed) (count qubits len : ℕ) (columns : List (List Bool)) : Type 0 where
   pub size : length columns ≡ qubits
   pub long : (q : ℕ) → q < qubits → length (slice_index_or columns q []) ≡ len
-  pub bit : (q j : ℕ) → q < qubits → j < len → slice_index_or (slice_index_or columns q []) j false ≡ (nat_lt j count && letters_clash against (letter_at ps j q))
+  pub bit : (q j : ℕ) → q < qubits → j < len → slice_index_or (slice_index_or columns q []) j false ≡ (nat_lt j count && letters_clash against (letter_in ps j q))
 
 -- whether a letter clashes, from whether X does and whether Z does
 abbrev pub clash_bit : Letter → Bool → Bool → Bool

@@ -1,20 +1,25 @@
 -- When products with bits that they read and write commute, and what a product waits on.
-use Rattle.std.specs.Prelude.{◌≡◌, ℕ, ◌+◌, ◌<◌, ◌≤◌, Bool, false, ◌&&◌, not, nat_le, nat_lt, List, [], length, slice_get, slice_index_or, Option, Some, None, All}
-use Rattle.pauli_product.specs.Signed.{Signed, plus, OfLength, commute}
+use Rattle.std.specs.Prelude.{◌≡◌, ℕ, ◌<◌, ◌≤◌, Bool, false, not, List, [], length, slice_get, slice_index_or, Option, Some, None, All}
+use Rattle.pauli_product.specs.Signed.{Signed, plus, OfLength}
+use Rattle.pauli_product.specs.Commuting.{BitUses, is_among, is_read}
+use Rattle.pauli_product.specs.Commuting as uses
 use Rattle.commute_order.specs.declared.Uses.{Uses}
+
+-- the bits that a product reads and writes
+abbrev pub bits_of : Uses → BitUses
+bits_of u = record { reads = is_among u.read_first u.read_size; write = u.write }
 
 -- whether the first reads the bit that is written
 abbrev pub reads_bit : Uses → Option ℕ → Bool
-reads_bit u None = false
-reads_bit u (Some bit) = nat_le u.read_first bit && nat_lt bit (u.read_first + u.read_size)
+reads_bit u write = is_read (bits_of u).reads write
 
 -- whether the first reads a bit that the second writes
 abbrev pub reads_from : Uses → Uses → Bool
-reads_from u v = reads_bit u v.write
+reads_from u v = uses.reads_from (bits_of u) (bits_of v)
 
 -- products commute where their axes do and neither reads a bit that the other writes
 abbrev pub commuting : Signed → Uses → Signed → Uses → Bool
-commuting p u q v = commute p q && not (reads_from u v) && not (reads_from v u)
+commuting p u q v = uses.commuting p (bits_of u) q (bits_of v)
 
 -- the same of two numbers in lists of products and of their uses
 unfoldable pub commuting_at : List Signed → List Uses → ℕ → ℕ → Bool

@@ -55,7 +55,9 @@ impl Bits {
     pub fn flip_by(&mut self, other: &Bits)
         requires { length self.old ≤ length other.now }
         ensures size { length self.new ≡ length self.old }
-        ensures bits { (j : ℕ) → j < length self.old → slice_index_or self.new j false ≡ xor (slice_index_or self.old j false) (slice_index_or other.now j false) }
+        ensures bits { (j : ℕ) → j < length self.old →
+            slice_index_or self.new j false ≡
+            xor (slice_index_or self.old j false) (slice_index_or other.now j false) }
     {
         flip_words(&mut self.words, &other.words);
     }
@@ -64,7 +66,9 @@ impl Bits {
     pub fn first_open(&self, done: &Bits, below: u32) -> Option<u32>
         requires here { below ≤ length self.now }
         requires there { length self.now ≤ length done.now }
-        ensures { MatchOption result ((j : ℕ) → j < below → IsOpen self.now done.now j → ⊥) (λ j. (j < below) × IsOpen self.now done.now j × ((k : ℕ) → k < j → IsOpen self.now done.now k → ⊥)) }
+        ensures { MatchOption result ((j : ℕ) → j < below → IsOpen self.now done.now j →
+            ⊥) (λ j. (j < below) × IsOpen self.now done.now j × ((k : ℕ) → k < j →
+            IsOpen self.now done.now k → ⊥)) }
     {
         for k in 0..self.len.div_ceil(64) {
             let open = self.words[k as usize] & !done.words[k as usize];
@@ -84,7 +88,8 @@ impl Bits {
 fn flip_words(words: &mut [u64], other: &[u64])
     requires { length words.old ≤ length other.now }
     ensures size { length words.new ≡ length words.old }
-    ensures flipped { (k : ℕ) → k < length words.old → slice_index words.new k ≡ bit_xor (slice_index words.old k) (slice_index other.now k) }
+    ensures flipped { (k : ℕ) → k < length words.old →
+        slice_index words.new k ≡ bit_xor (slice_index words.old k) (slice_index other.now k) }
 {
     for (k, word) in words.iter_mut().enumerate() {
         *word ^= other[k];

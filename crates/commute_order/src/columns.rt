@@ -24,7 +24,8 @@ fn clashes(a: Letter, b: Letter) -> bool
 
 // `qubits` columns of `len` bits, all clear.
 pub fn clear_columns(alloc: Global, qubits: u32, len: u32) -> Result<Vec<Bits>, Memory>
-    ensures { IfOk result (λ columns. (against : Letter) (ps : List Signed) → IsColumns against ps 0 qubits len columns.items) }
+    ensures { IfOk result (λ columns. (against : Letter) (ps : List Signed) →
+        IsColumns against ps 0 qubits len columns.items) }
 {
     let mut columns = Vec::with_capacity(alloc, qubits as usize)?;
     for _q in 0..qubits {
@@ -36,9 +37,12 @@ pub fn clear_columns(alloc: Global, qubits: u32, len: u32) -> Result<Vec<Bits>, 
 // Sets bit p of each column where the product's letter clashes with `against`.
 pub fn add_product(columns: &mut Vec<Bits>, against: Letter, product: &Product, p: u32)
     requires size { length columns.old.items ≡ length product.now.letters }
-    requires long { (q : ℕ) → q < length columns.old.items → p < length (slice_index_or columns.old.items q []) }
+    requires long { (q : ℕ) → q < length columns.old.items →
+        p < length (slice_index_or columns.old.items q []) }
     ensures size { length columns.new.items ≡ length columns.old.items }
-    ensures set { (q : ℕ) → q < length columns.old.items → slice_index_or columns.new.items q [] ≡ (if letters_clash against (slice_index_or product.now.letters q I) then slice_set (slice_index_or columns.old.items q []) p true else slice_index_or columns.old.items q []) }
+    ensures set { (q : ℕ) → q < length columns.old.items →
+        slice_index_or columns.new.items q [] ≡
+        (if letters_clash against (slice_index_or product.now.letters q I) then slice_set (slice_index_or columns.old.items q []) p true else slice_index_or columns.old.items q []) }
 {
     for q in 0..product.len() {
         if clashes(against, product.letter(q)) {
@@ -53,7 +57,9 @@ fn flip_letter(row: &mut Bits, letter: Letter, x: &Bits, z: &Bits)
     requires x { length row.old ≤ length x.now }
     requires z { length row.old ≤ length z.now }
     ensures size { length row.new ≡ length row.old }
-    ensures bits { (j : ℕ) → j < length row.old → slice_index_or row.new j false ≡ xor (slice_index_or row.old j false) (clash_bit letter (slice_index_or x.now j false) (slice_index_or z.now j false)) }
+    ensures bits { (j : ℕ) → j < length row.old →
+        slice_index_or row.new j false ≡
+        xor (slice_index_or row.old j false) (clash_bit letter (slice_index_or x.now j false) (slice_index_or z.now j false)) }
 {
     match letter {
         Letter::I => {}
@@ -75,7 +81,11 @@ pub fn mark_clashes(x: &[Bits], z: &[Bits], product: &Product, p: u32, len: u32,
     requires x_long { (q : ℕ) → q < length x.now → length (slice_index_or x.now q []) ≡ len }
     requires z_long { (q : ℕ) → q < length z.now → length (slice_index_or z.now q []) ≡ len }
     ensures size { length row.new ≡ p + 1 }
-    ensures marks { (ps : List Signed) (j : ℕ) → IsColumns X ps (p + 1) (length product.now.letters) len x.now → IsColumns Z ps (p + 1) (length product.now.letters) len z.now → length (slice_index_or ps j (plus [])).letters ≡ length product.now.letters → j ≤ p → slice_index_or row.new j false ≡ not (commute (slice_index_or ps j (plus [])) product.now) }
+    ensures marks { (ps : List Signed) (j : ℕ) →
+        IsColumns X ps (p + 1) (length product.now.letters) len x.now →
+        IsColumns Z ps (p + 1) (length product.now.letters) len z.now →
+        length (slice_index_or ps j (plus [])).letters ≡ length product.now.letters → j ≤ p →
+        slice_index_or row.new j false ≡ not (commute (slice_index_or ps j (plus [])) product.now) }
 {
     for q in 0..product.len() {
         flip_letter(row, product.letter(q), &x[q as usize], &z[q as usize]);

@@ -46,7 +46,8 @@ impl Model for Order {
 
     ghost use Rattle.std.specs.Prelude.{◌≡◌, ℕ, ◌+◌, ◌<◌, [], length, slice_index_or};
 
-    ghost invariant = { λ o. (p : ℕ) → p < length o.rows.items → length (slice_index_or o.rows.items p []) ≡ p + 1 };
+    ghost invariant = { λ o. (p : ℕ) → p < length o.rows.items →
+        length (slice_index_or o.rows.items p []) ≡ p + 1 };
 }
 
 impl Order {
@@ -69,7 +70,8 @@ impl Order {
     pub fn commute(&self, i: u32, j: u32) -> bool
         requires i { i < length self.now }
         requires j { j < length self.now }
-        ensures { (ps : List Signed) (us : List Uses) → IsOrder ps us self.now → result ≡ commuting_at ps us i j }
+        ensures { (ps : List Signed) (us : List Uses) → IsOrder ps us self.now →
+            result ≡ commuting_at ps us i j }
     {
         if i < j {
             !self.rows[j as usize].has(i)
@@ -82,7 +84,8 @@ impl Order {
     pub fn waits_on(&self, p: u32, done: &DoneSet) -> Option<u32>
         requires p { p < length self.now }
         requires done { length done.now ≡ length self.now }
-        ensures { (ps : List Signed) (us : List Uses) → IsOrder ps us self.now → LeastWait ps us done.now p result }
+        ensures { (ps : List Signed) (us : List Uses) → IsOrder ps us self.now →
+            LeastWait ps us done.now p result }
     {
         self.rows[p as usize].first_open(&done.bits, p)
     }
@@ -158,7 +161,9 @@ fn clash_row(
     ensures x { OnOk result (IsColumns X products.now (p + 1) (length x.old.items) (length products.now) x.new.items) }
     ensures z { OnOk result (IsColumns Z products.now (p + 1) (length x.old.items) (length products.now) z.new.items) }
     ensures size { IfOk result (λ row. length row ≡ p + 1) }
-    ensures marks { IfOk result (λ row. (j : ℕ) → j ≤ p → slice_index_or row j false ≡ not (commute (slice_index_or products.now j (plus [])) (slice_index_or products.now p (plus [])))) }
+    ensures marks { IfOk result (λ row. (j : ℕ) → j ≤ p →
+        slice_index_or row j false ≡
+        not (commute (slice_index_or products.now j (plus [])) (slice_index_or products.now p (plus [])))) }
 {
     let product = &products[p as usize];
     add_product(x, Letter::X, product, p);
@@ -174,7 +179,9 @@ fn clash_rows(alloc: Global, products: &[Product]) -> Result<Vec<Bits>, Memory>
     requires qubits { OneLength products.now }
     ensures size { IfOk result (λ rows. length rows.items ≡ length products.now) }
     ensures long { IfOk result (λ rows. IsTriangle rows.items) }
-    ensures marks { IfOk result (λ rows. (p j : ℕ) → p < length products.now → j ≤ p → mark rows.items p j ≡ not (commute (slice_index_or products.now j (plus [])) (slice_index_or products.now p (plus [])))) }
+    ensures marks { IfOk result (λ rows. (p j : ℕ) → p < length products.now → j ≤ p →
+        mark rows.items p j ≡
+        not (commute (slice_index_or products.now j (plus [])) (slice_index_or products.now p (plus [])))) }
 {
     let count = products.len() as u32;
     let qubits = qubit_count(products);

@@ -53,8 +53,10 @@ fn writers_by_bit(alloc: Global, uses: &[Uses]) -> Result<Vec<Writer>, Memory>
 // Those of the writers whose bit is read.
 fn writers_read<'a>(writers: &'a [Writer], own: &Uses) -> &'a [Writer]
     requires { IsNonDecreasingBy (λ w. w.bit) writers.now }
-    ensures read { All (λ w. Contains writers.now w × (reads_bit own.now (Some w.bit) ≡ true)) result.now }
-    ensures each { (w : Writer) → Contains writers.now w → reads_bit own.now (Some w.bit) ≡ true → Contains result.now w }
+    ensures read { All (λ w. Contains writers.now w × (reads_bit own.now (Some w.bit) ≡
+        true)) result.now }
+    ensures each { (w : Writer) → Contains writers.now w → reads_bit own.now (Some w.bit) ≡ true →
+        Contains result.now w }
 {
     let first = u64::from(own.read_first);
     let end = first + u64::from(own.read_size);
@@ -69,7 +71,8 @@ fn mark_pair(rows: &mut [Bits], a: u32, b: u32)
     requires a { a < length rows.old }
     requires b { b < length rows.old }
     requires long { IsTriangle rows.old }
-    ensures { rows.new ≡ slice_set rows.old (max a b) (slice_set (slice_index_or rows.old (max a b) []) (min a b) true) }
+    ensures { rows.new ≡
+        slice_set rows.old (max a b) (slice_set (slice_index_or rows.old (max a b) []) (min a b) true) }
 {
     let row = &mut rows[a.max(b) as usize];
     row.set(a.min(b));
@@ -82,8 +85,10 @@ fn mark_pairs(rows: &mut [Bits], writers: &[Writer], r: u32)
     requires long { IsTriangle rows.old }
     ensures size { length rows.new ≡ length rows.old }
     ensures long { IsTriangle rows.new }
-    ensures marked { (w : Writer) → Contains writers.now w → mark rows.new (max r w.product) (min r w.product) ≡ true }
-    ensures others { (test : ℕ → Bool) (p j : ℕ) → All (λ w. test w.product ≡ true) writers.now → (mark rows.new p j || pair_with test r p j) ≡ (mark rows.old p j || pair_with test r p j) }
+    ensures marked { (w : Writer) → Contains writers.now w →
+        mark rows.new (max r w.product) (min r w.product) ≡ true }
+    ensures others { (test : ℕ → Bool) (p j : ℕ) → All (λ w. test w.product ≡ true) writers.now →
+        (mark rows.new p j || pair_with test r p j) ≡ (mark rows.old p j || pair_with test r p j) }
 {
     for w in writers {
         mark_pair(rows, r, w.product);
@@ -99,7 +104,9 @@ fn mark_reader(rows: &mut [Bits], writers: &[Writer], uses: &[Uses], r: u32)
     requires rising { IsNonDecreasingBy (λ w. w.bit) writers.now }
     ensures size { length rows.new ≡ length rows.old }
     ensures long { IsTriangle rows.new }
-    ensures marks { (p j : ℕ) (d : Uses) → j ≤ p → p < length uses.now → mark rows.new p j ≡ (mark rows.old p j || pair_with (λ k. reads_from (slice_index_or uses.now r d) (slice_index_or uses.now k d)) r p j) }
+    ensures marks { (p j : ℕ) (d : Uses) → j ≤ p → p < length uses.now →
+        mark rows.new p j ≡ (mark rows.old p j ||
+        pair_with (λ k. reads_from (slice_index_or uses.now r d) (slice_index_or uses.now k d)) r p j) }
 {
     let read = writers_read(writers, &uses[r as usize]);
     mark_pairs(rows, read, r);
@@ -114,7 +121,9 @@ fn mark_readers(rows: &mut [Bits], writers: &[Writer], uses: &[Uses])
     requires rising { IsNonDecreasingBy (λ w. w.bit) writers.now }
     ensures size { length rows.new ≡ length rows.old }
     ensures long { IsTriangle rows.new }
-    ensures marks { (p j : ℕ) (d : Uses) → j ≤ p → p < length uses.now → mark rows.new p j ≡ (mark rows.old p j || shares_bit (slice_index_or uses.now j d) (slice_index_or uses.now p d)) }
+    ensures marks { (p j : ℕ) (d : Uses) → j ≤ p → p < length uses.now →
+        mark rows.new p j ≡ (mark rows.old p j ||
+        shares_bit (slice_index_or uses.now j d) (slice_index_or uses.now p d)) }
 {
     for r in 0..uses.len() as u32 {
         mark_reader(rows, writers, uses, r);
@@ -127,7 +136,9 @@ pub fn mark_sharing(alloc: Global, rows: &mut [Bits], uses: &[Uses]) -> Result<(
     requires rows { length rows.old ≡ length uses.now }
     requires long { IsTriangle rows.old }
     ensures long { OnOk result (IsTriangle rows.new) }
-    ensures marks { OnOk result ((p j : ℕ) (d : Uses) → j ≤ p → p < length uses.now → mark rows.new p j ≡ (mark rows.old p j || shares_bit (slice_index_or uses.now j d) (slice_index_or uses.now p d))) }
+    ensures marks { OnOk result ((p j : ℕ) (d : Uses) → j ≤ p → p < length uses.now →
+        mark rows.new p j ≡ (mark rows.old p j ||
+        shares_bit (slice_index_or uses.now j d) (slice_index_or uses.now p d))) }
 {
     let writers = writers_by_bit(alloc, uses)?;
     mark_readers(rows, &writers, uses);

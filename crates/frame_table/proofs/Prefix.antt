@@ -1,13 +1,11 @@
--- A product's first letters, with I behind them, and the images of these.
+-- A product's first letters, with I after them, and the images of these.
 use Rattle.std.proofs.Common.{◌≡◌, ℕ, zero, suc, ◌+◌, ◌%◌, ◌==◌, ◌<◌, ◌≤◌, true, false, List, [], ◌∷◌, length, replicate, get_or, set, refl, ap, ap₂, sym, ◌∙◌, arith}
 use Rattle.pauli_product.specs.declared.Letter.{Letter}
 use Rattle.pauli_product.specs.declared.Letter.TheVariants.{I, X, Y, Z}
 use Rattle.pauli_product.specs.Letters.{letter_product, letter_phase, letters_clash}
 use Rattle.pauli_product.specs.Signed.{Signed, plus, OfLength, letters_product, letters_phase, clashes, commute, real_product}
 use Rattle.pauli_product.specs.Pulls.{Turn, i_times, carry, TurnsOfLength}
-use Rattle.pauli_product.proofs.Algebra.{commute_from_even, commute_from_odd, conj_commuting}
-use Rattle.pauli_product.proofs.Turns.{carry_keeps, length_carry}
-use Rattle.pauli_product.proofs.Products.{carry_real, carry_i_times, real_of_three}
+use Rattle.pauli_product.proofs.Laws.{clashes_even, clashes_odd, conj_idle, carry_commuting, carry_length, carry_real, carry_i_times, real_of_three}
 use Rattle.frame_table.specs.Images.{alone}
 use Rattle.frame_table.specs.Steps.{times_letter}
 
@@ -119,7 +117,7 @@ y_clashes (suc n) (suc q) h = omega (arith, y_clashes n q (omega arith))
 
 -- X and Z of one qubit anticommute, and i X Z is Y
 x_z_clash : (n q : ℕ) → q < n → commute (alone n q X) (alone n q Z) ≡ false
-x_z_clash n q h = commute_from_odd (alone n q X) (alone n q Z) (ap (λ k. k % 2) (y_clashes n q h))
+x_z_clash n q h = clashes_odd (alone n q X) (alone n q Z) (ap (λ k. k % 2) (y_clashes n q h))
 
 y_is : (n q : ℕ) → q < n → i_times (alone n q X) (alone n q Z) ≡ alone n q Y
 y_is n q h = let power = y_phase n q h in let letters = y_letters n q h in λ i. record { sign = (1 + (0 + 0 + power i) % 4) % 4 == 2; letters = letters i }
@@ -132,15 +130,15 @@ alone_clashes (a ∷ as') (suc q) l e = rw right_clash (omega (arith, alone_clas
 
 pub commute_alone : (n : ℕ) (p : Signed) (q : ℕ) (l : Letter) → OfLength n p → get_or p.letters q I ≡ I → commute p (alone n q l) ≡ true
 commute_alone n p q l e h =
-    commute_from_even p (alone n q l) (ap (λ m. clashes p.letters (set (replicate m I) q l) % 2) (sym e) ∙ ap (λ k. k % 2) (alone_clashes p.letters q l h))
+    clashes_even p (alone n q l) (ap (λ m. clashes p.letters (set (replicate m I) q l) % 2) (sym e) ∙ ap (λ k. k % 2) (alone_clashes p.letters q l h))
 
 -- ---- images
 -- I .. I is its own image
 pub carry_plain : (ts : List Turn) (n : ℕ) → carry ts (plus (replicate n I)) ≡ plus (replicate n I)
 carry_plain [] n = refl
 carry_plain (t ∷ ts) n =
-    let idle = commute_from_even t.axis (plus (replicate n I)) (ap (λ k. k % 2) (plain_clashes t.axis.letters n)) in
-    ap (carry ts) (conj_commuting t.axis t.angle (plus (replicate n I)) idle) ∙ carry_plain ts n
+    let idle = clashes_even t.axis (plus (replicate n I)) (ap (λ k. k % 2) (plain_clashes t.axis.letters n)) in
+    ap (carry ts) (conj_idle t.axis t.angle (plus (replicate n I)) idle) ∙ carry_plain ts n
 
 module _ (n : ℕ) (ts : List Turn) (long : TurnsOfLength n ts) (ls : List Letter) (size : length ls ≡ n) (q : ℕ) (within : q < n) where
   before : Signed
@@ -159,7 +157,7 @@ module _ (n : ℕ) (ts : List Turn) (long : TurnsOfLength n ts) (ls : List Lette
       let whole : plus (prefix (suc q) ls) ≡ real_product (plus (prefix q ls)) (alone n q l) =
       λ i. record { sign = (0 + 0 + sym power i) % 4 == 2; letters = sym letters i } in
       ap (carry ts) whole
-      ∙ carry_real n ts (plus (prefix q ls)) (alone n q l) long before_long (length_alone n q l) (commute_from_even (plus (prefix q ls)) (alone n q l) (ap (λ k. k % 2) even))
+      ∙ carry_real n ts (plus (prefix q ls)) (alone n q l) long before_long (length_alone n q l) (clashes_even (plus (prefix q ls)) (alone n q l) (ap (λ k. k % 2) even))
 
   pub next_letter : (l : Letter) → get_or ls q I ≡ l → times_letter l (carry ts (alone n q X)) (carry ts (alone n q Z)) (carry ts (plus (prefix q ls))) ≡ carry ts (plus (prefix (suc q) ls))
   next_letter I e = ap (λ (ms : List Letter). carry ts (plus ms)) (same_prefix q ls e)
@@ -170,9 +168,9 @@ module _ (n : ℕ) (ts : List Turn) (long : TurnsOfLength n ts) (ls : List Lette
       let az = alone n q Z in
       let lx = length_alone n q X in
       let lz = length_alone n q Z in
-      let lp = length_carry n ts (plus (prefix q ls)) long before_long in
+      let lp = carry_length n ts (plus (prefix q ls)) long before_long in
       let clash = x_z_clash n q within in
       let y : i_times (carry ts ax) (carry ts az) ≡ carry ts (alone n q Y) = sym (carry_i_times n ts ax az long lx lz clash) ∙ ap (carry ts) (y_is n q within) in
-      sym (real_of_three (carry ts (plus (prefix q ls))) (carry ts ax) (carry ts az) (length_carry n ts ax long lx ∙ sym lp) (length_carry n ts az long lz ∙ sym lp) (carry_keeps n ts ax az long lx lz ∙ clash))
+      sym (real_of_three n (carry ts (plus (prefix q ls))) (carry ts ax) (carry ts az) lp (carry_length n ts ax long lx) (carry_length n ts az long lz) (carry_commuting n ts ax az long lx lz ∙ clash))
       ∙ ap (real_product (carry ts (plus (prefix q ls)))) y
       ∙ sym (joined Y e)

@@ -67,17 +67,20 @@ impl Frame {
     pub fn image(&self, p: &Product, into: &mut Product)
         requires product { OfLength (qubits self.now) p.now }
         requires room { OfLength (qubits self.now) into.old }
-        ensures image { (n : ℕ) (turns : List Turn) → After n turns self.now → into.new ≡ carry turns p.now }
+        ensures image { (n : ℕ) (turns : List Turn) → After n turns self.now →
+            into.new ≡ carry turns p.now }
         ensures room { OfLength (qubits self.now) into.new }
     {
         self.identity.copy_to(into);
         multiply_images(&self.x, &self.z, p, into);
     }
 
-    /// Adds a correction about an executed axis: a quarter where `quarter`, then a half where `half`.
+    /// Adds a correction about an executed axis: by a rotation of pi/4 where `quarter`, and then by
+    /// one of pi/2 where `half`.
     pub fn correct(&mut self, axis: &Product, quarter: bool, half: bool)
         requires { OfLength (qubits self.old) axis.now }
-        ensures corrected { (n : ℕ) (turns : List Turn) → After n turns self.old → After n (turns ++ turns_about axis.now quarter half) self.new }
+        ensures corrected { (n : ℕ) (turns : List Turn) → After n turns self.old →
+            After n (turns ++ turns_about axis.now quarter half) self.new }
         ensures size { qubits self.new ≡ qubits self.old }
     {
         turn_all(&mut self.x, axis, quarter, half);
@@ -90,7 +93,8 @@ impl Frame {
     /// this looks at the images at the letters of `own` alone, where `correct` looks at all.
     pub fn advance(&mut self, own: &Product, quarter: bool, half: bool)
         requires { OfLength (qubits self.old) own.now }
-        ensures corrected { (n : ℕ) (turns : List Turn) → After n turns self.old → After n (turns ++ turns_about (carry turns own.now) quarter half) self.new }
+        ensures corrected { (n : ℕ) (turns : List Turn) → After n turns self.old →
+            After n (turns ++ turns_about (carry turns own.now) quarter half) self.new }
         ensures size { qubits self.new ≡ qubits self.old }
     {
         if !quarter && !half {
@@ -142,7 +146,8 @@ fn multiply_images(x: &[Product], z: &[Product], p: &Product, into: &mut Product
     requires z { IsSquare (length x.now) z.now }
     requires product { OfLength (length x.now) p.now }
     requires identity { into.old ≡ plus (replicate (length x.now) I) }
-    ensures image { (n : ℕ) (turns : List Turn) → After n turns (record { x = x.now; z = z.now }) → into.new ≡ carry turns p.now }
+    ensures image { (n : ℕ) (turns : List Turn) → After n turns (record { x = x.now; z = z.now }) →
+        into.new ≡ carry turns p.now }
     ensures long { OfLength (length x.now) into.new }
 {
     let mut from = 0;
@@ -177,7 +182,9 @@ fn turn_all(images: &mut [Product], axis: &Product, quarter: bool, half: bool)
     requires square { IsSquare (length images.old) images.old }
     requires axis { OfLength (length images.old) axis.now }
     ensures square { IsSquare (length images.old) images.new }
-    ensures turned { (q : ℕ) (d : Signed) → q < length images.old → slice_index_or images.new q d ≡ carry (turns_about axis.now quarter half) (slice_index_or images.old q d) }
+    ensures turned { (q : ℕ) (d : Signed) → q < length images.old →
+        slice_index_or images.new q d ≡
+        carry (turns_about axis.now quarter half) (slice_index_or images.old q d) }
 {
     for image in images.iter_mut() {
         turn(image, axis, quarter, half);
@@ -190,8 +197,13 @@ fn turn_at(images: &mut [Product], own: &Product, axis: &Product, quarter: bool,
     requires own { OfLength (length images.old) own.now }
     requires axis { OfLength (length images.old) axis.now }
     ensures square { IsSquare (length images.old) images.new }
-    ensures turned { (q : ℕ) (d : Signed) → q < length images.old → slice_index_or own.now.letters q I ≢ I → slice_index_or images.new q d ≡ carry (turns_about axis.now quarter half) (slice_index_or images.old q d) }
-    ensures kept { (q : ℕ) (d : Signed) → q < length images.old → slice_index_or own.now.letters q I ≡ I → slice_index_or images.new q d ≡ slice_index_or images.old q d }
+    ensures turned { (q : ℕ) (d : Signed) → q < length images.old →
+        slice_index_or own.now.letters q I ≢ I →
+        slice_index_or images.new q d ≡
+        carry (turns_about axis.now quarter half) (slice_index_or images.old q d) }
+    ensures kept { (q : ℕ) (d : Signed) → q < length images.old →
+        slice_index_or own.now.letters q I ≡ I →
+        slice_index_or images.new q d ≡ slice_index_or images.old q d }
 {
     let mut from = 0;
     while from < own.len() {

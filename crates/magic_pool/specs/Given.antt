@@ -8,7 +8,7 @@ pub data Event : Type 0 where
   step : ℕ → Event
   take : ℕ → Event
 
--- the states that the events take, in order, behind these steps and taken states
+-- the states that the events take, in order, after these steps and taken states
 abbrev pub given_after : List Fail → List ℕ → List ℕ → List Event → List ℕ
 given_after fails steps taken [] = []
 given_after fails steps taken (step f ∷ es) = given_after fails (steps ++ f ∷ []) taken es

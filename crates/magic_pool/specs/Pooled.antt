@@ -1,4 +1,4 @@
--- What a pool has, the histories of steps and taken states that it stands behind, and what a step of it answers.
+-- What a pool has, the histories of steps and taken states that it may have had, and what a step of it answers.
 use Rattle.std.specs.Prelude.{◌≡◌, ℕ, false, ◌+◌, ◌-◌, ◌/◌, ◌%◌, ◌<◌, ◌≤◌, ◌==◌, ◌&&◌, nat_le, if◌then◌else◌, slice_index, slice_index_or, List, [], ◌∷◌, length, Result, Ok, Err}
 use Rattle.magic_pool.specs.declared.Maker.{Maker}
 use Rattle.magic_pool.specs.declared.Fail.{Fail}
@@ -16,7 +16,7 @@ pub record Pooled : Type 0 where
   pub steps : List ℕ
   pub ready : List (List ℕ)
 
--- the pool is one behind these steps, in order, and these taken states
+-- the pool is one after these steps, in order, and these taken states
 pub record Recounts (p : Pooled) (steps taken : List ℕ) : Type 0 where
   pub made : p.made ≡ length (makers_of p.fails steps)
   pub counts : (f : ℕ) → slice_index p.steps f ≡ steps_of f steps
@@ -43,7 +43,7 @@ answer_of fails f store before made ready =
     if store == 0 then Err NoFactory
     else (if before % 11 == 0 && nat_le store ready then Err (Stocked ready) else Ok (outcome_of fails f (before + 1) made))
 
--- what a step of a factory answers behind these steps and taken states
+-- what a step of a factory answers after these steps and taken states
 abbrev pub step_answer : List Maker → List Fail → List ℕ → List ℕ → ℕ → Result Stepped StepRefused
 step_answer makers fails steps taken f =
     answer_of fails f (store_of makers f) (steps_of f steps) (length (makers_of fails steps)) (length (ready_of fails steps taken f))

@@ -11,7 +11,7 @@ mod tests;
 pub use laws::{law_apart, law_once};
 pub use pool::Pool;
 
-/// A factory and its store: the greatest number of ready states at which a run may begin.
+/// A factory and its store: how many ready states it can keep. A run begins only while fewer are ready.
 #[derive(Clone, Copy, Debug, PartialEq, Eq)]
 pub struct Maker {
     /// The factory, numbered from 0, below 16.
@@ -53,7 +53,7 @@ pub enum StepRefused {
     NoFactory,
     /// A run would begin, and the store is full.
     Stocked {
-        /// How many states are ready.
+        /// How many states are ready: as many as the store holds.
         ready: u32,
     },
 }

@@ -1,8 +1,9 @@
 // A pool of factories.
-ghost use Rattle.std.specs.Prelude.{◌≡◌, ℕ, ◌-◌, ◌<◌, ◌≤◌, ◌^◌, List, [], ◌∷◌, ◌++◌, length, All, IfOk, IfNone, OnOk, OnErr};
+ghost use Rattle.std.specs.Prelude.{◌≡◌, ℕ, ◌-◌, ◌<◌, ◌≤◌, ◌^◌, List, [], ◌∷◌, ◌++◌, length, All, Err, IfOk, IfNone, OnOk, OnErr};
 ghost use Rattle.std.specs.Option.{option_to_list};
 ghost use Rattle.magic_pool.specs.Recount.{ready_of, first_of_list};
-ghost use Rattle.magic_pool.specs.Pooled.{Recounts, HasFewer, step_answer};
+ghost use Rattle.magic_pool.specs.Pooled.{Recounts, HasFewer, step_answer, store_of};
+ghost use Rattle.magic_pool.specs.declared.StepRefused.TheVariants.{Stocked};
 ghost use Rattle.magic_pool.specs.Makers.{AreDistinct, IsMaker};
 
 use crate::factory::Factory;
@@ -11,8 +12,8 @@ use patch_base::{FACTORIES, Memory};
 use std::alloc::Global;
 use std::marker::Model;
 
-/// Factories with their ready states. A clause speaks of every history that the pool is one behind:
-/// the factories stepped, in order, and the states taken, in order. A new pool is one behind no steps.
+/// Factories with their ready states. A clause speaks of every history that the pool may have had:
+/// the factories stepped, in order, and the states taken, in order. A new pool has had no steps.
 #[derive(Drop)]
 pub struct Pool {
     makers: Vec<Maker>,
@@ -42,7 +43,7 @@ impl Model for Pool {
 }
 
 impl Pool {
-    /// A pool of these factories, with these failing runs. Want of memory makes none.
+    /// A pool of these factories, with these failing runs. Out of memory, there is none.
     pub fn new(alloc: Global, makers: &[Maker], fails: &[Fail]) -> Result<Pool, Memory>
         requires distinct { AreDistinct makers.now }
         requires makers { All IsMaker makers.now }
@@ -63,11 +64,13 @@ impl Pool {
         })
     }
 
-    /// Makes a step of a factory. A refused step changes nothing.
+    /// Makes a step of a factory. A refused step changes nothing. Where a full store refuses it, the number that is named is
+    /// that of the ready states, which is the store.
     pub fn step(&mut self, f: u32) -> Result<Stepped, StepRefused>
         requires { HasFewer self.old (2 ^ 32 - 1) }
         ensures answer { (steps taken : List ℕ) → Recounts self.old steps taken → result ≡ step_answer self.old.makers self.old.fails steps taken f }
         ensures history { OnOk result ((steps taken : List ℕ) → Recounts self.old steps taken → Recounts self.new (steps ++ f ∷ []) taken) }
+        ensures stocked { (n : ℕ) → result ≡ Err (Stocked n) → n ≡ store_of self.old.makers f }
         ensures refused { OnErr result (self.new ≡ self.old) }
         ensures makers { self.new.makers ≡ self.old.makers }
         ensures fails { self.new.fails ≡ self.old.fails }
@@ -91,9 +94,10 @@ impl Pool {
         Ok(stepped)
     }
 
-    /// How many states of a factory are ready, and 0 for a factory that isn't there.
+    /// How many states of a factory are ready, at most its store, and 0 for a factory that isn't there.
     pub fn ready(&self, f: u32) -> u32
-        ensures { (steps taken : List ℕ) → Recounts self.now steps taken → result ≡ length (ready_of self.now.fails steps taken f) }
+        ensures count { (steps taken : List ℕ) → Recounts self.now steps taken → result ≡ length (ready_of self.now.fails steps taken f) }
+        ensures store { result ≤ store_of self.now.makers f }
     {
         if f as usize >= self.factories.len() {
             return 0;

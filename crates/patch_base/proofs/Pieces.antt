@@ -16,7 +16,7 @@ slice_split_whole p (x ∷ xs) all = grind (arith, common_steps, slice_split_who
 abbrev pub is_feed : ℕ → Bool
 is_feed b = nat_eq b 10
 
--- the first line, and those behind its line feed
+-- the first line, and those after its line feed
 pub lines_first : (bs : List ℕ) → 0 < length bs → lines bs ≡ take (position_or_len is_feed bs) bs ∷ lines (drop (position_or_len is_feed bs + 1) bs)
 lines_first [] some = absurd (omega arith)
 lines_first (b ∷ []) some = grind (arith, common_steps)
@@ -31,7 +31,7 @@ place_is xs b i within before here =
 pub rest_is : {X : Type 0} (xs : List X) (at : ℕ) → take (length xs - at) (drop at xs) ≡ drop at xs
 rest_is xs at = grind (arith, common_steps)
 
--- the line that begins at a place, where its line feed is n bytes behind
+-- the line that begins at a place, where its line feed is n bytes on
 pub lines_at : (text : List ℕ) (at n : ℕ) → at < length text → n ≡ position_or_len is_feed (take (length text - at) (drop at text)) → lines (drop at text) ≡ slice_range text at (at + n) ∷ lines (drop (at + n + 1) text)
 lines_at text at n inside place =
     let e : n ≡ position_or_len is_feed (drop at text) = rw (rest_is text at) at place in
@@ -41,14 +41,14 @@ lines_at text at n inside place =
     let behind : drop (n + 1) (drop at text) ≡ drop (at + n + 1) text = drop-drop (n + 1) at text ∙ ap (λ k. drop k text) (omega arith) in
     rw (cut, ← behind) (rw (← e) at first)
 
--- behind the end no line is left
+-- past the end no line is left
 pub no_lines_past : (text : List ℕ) (at : ℕ) → length text ≤ at → drop at text ≡ []
 no_lines_past text at past = grind (arith, common_steps)
 
 abbrev pub is_space : ℕ → Bool
 is_space b = nat_eq b 32
 
--- the first word of a line, and the words behind its space
+-- the first word of a line, and the words after its space
 pub words_first : (line : List ℕ) (n : ℕ) → n ≡ position_or_len is_space line → n < length line → words line ≡ take n line ∷ words (take (length line - (n + 1)) (drop (n + 1) line))
 words_first line n place inside =
     rw (rest_is line (n + 1)) (rw place (slice_split_first is_space line 0 (omega (arith, place))))

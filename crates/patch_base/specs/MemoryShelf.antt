@@ -56,7 +56,7 @@ abbrev pub raised : List Book → List ℕ → List Book
 raised [] name = []
 raised (b ∷ bs) name = if bytes_eq b.name name then (record b { faults = one_more b.faults } ∷ bs) else (b ∷ raised bs name)
 
--- the shelf behind a call for this name
+-- the shelf after a call for this name
 abbrev pub after_call : Shelved → List ℕ → Shelved
 after_call s name = record s {
   books = if is_listed s.failing s.next_call then raised s.books name else s.books;

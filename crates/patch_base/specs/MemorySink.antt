@@ -23,7 +23,7 @@ fails_with s piece = is_listed s.failing s.next_call || (not (length piece == 0)
 abbrev pub taken_of : Sunk → List ℕ → ℕ
 taken_of s piece = min (min (length piece) s.most) (s.room - length s.bytes)
 
--- the sink behind a call with this piece
+-- the sink after a call with this piece
 abbrev pub after_write : Sunk → List ℕ → Sunk
 after_write s piece = record s {
   bytes = if fails_with s piece then s.bytes else s.bytes ++ take (taken_of s piece) piece;

@@ -69,7 +69,7 @@ impl MemoryShelf {
     }
 
     /// Puts a text onto the shelf, under a name that it doesn't hold yet. The name keeps the count
-    /// of faults that it had. Want of memory changes nothing.
+    /// of faults that it had. Out of memory, nothing changes.
     pub fn add(&mut self, name: &str, bytes: &[u8]) -> Result<(), Memory>
         requires { text_of self.old.books name.now ≡ None }
         ensures added { OnOk result (self.new ≡ record self.old {
@@ -86,7 +86,7 @@ impl MemoryShelf {
         Ok(())
     }
 
-    /// Lists a call that is to fail. Want of memory changes nothing.
+    /// Lists a call that is to fail. Out of memory, nothing changes.
     pub fn fail_at(&mut self, call: u64) -> Result<(), Memory>
         ensures listed { OnOk result (self.new ≡ record self.old { failing = self.old.failing ++ call ∷ [] }) }
         ensures refused { OnErr result (self.new ≡ self.old) }

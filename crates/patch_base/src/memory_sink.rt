@@ -56,7 +56,7 @@ impl MemorySink {
         })
     }
 
-    /// Lists a call that is to fail. Want of memory changes nothing.
+    /// Lists a call that is to fail. Out of memory, nothing changes.
     pub fn fail_at(&mut self, call: u64) -> Result<(), Memory>
         ensures listed { OnOk result (self.new ≡ record self.old { failing = self.old.failing ++ call ∷ [] }) }
         ensures refused { OnErr result (self.new ≡ self.old) }

@@ -5,7 +5,7 @@ ghost use Rattle.patch_base.specs.declared.outside.ReadFault.TheVariants as faul
 
 use std::alloc::{AllocError, AllocFailed};
 
-/// Want of memory.
+/// Out of memory.
 #[derive(Clone, Copy, Debug, PartialEq, Eq)]
 pub struct Memory;
 
@@ -30,7 +30,7 @@ pub struct Failed;
 pub enum ReadFault {
     /// The shelf failed.
     Failed,
-    /// Want of memory.
+    /// Out of memory.
     Memory,
 }
 

@@ -1,6 +1,6 @@
 use crate::{
-    Failed, Line, MemoryShelf, MemorySink, Need, NeverFails, ReadFault, Shelf, Sink, Used, Words,
-    bit, decimal, is_name, is_skipped, next_line, put_decimal, read_text, write_all,
+    Failed, Line, Listed, MemoryShelf, MemorySink, Need, NeverFails, ReadFault, Shelf, Sink, Used,
+    Words, bit, decimal, is_name, is_skipped, next_line, put_decimal, read_text, write_all,
 };
 use std::test::Fail;
 
@@ -164,6 +164,20 @@ fn writes_as_much_as_the_sink_takes(rt: HostRuntime) -> Result<(), Fail> {
         assert_eq!(rt; sink.bytes(), held);
         assert_eq!(rt; sink.write(b""), Ok(0));
     }
+    Ok(())
+}
+
+#[test]
+fn keeps_lists(rt: HostRuntime) -> Result<(), Fail> {
+    let mut list = Listed::new(rt.alloc());
+    list.push(5u32)?;
+    list.push(7u32)?;
+    list.set(0, 6);
+    assert_eq!(rt; list.as_slice(), [6, 7].as_slice());
+    list.copy_from(&[8, 9]);
+    let items = list.into_vec();
+    assert_eq!(rt; items.as_slice(), [8, 9].as_slice());
+    assert_eq!(rt; Listed::of(items).as_slice(), [8, 9].as_slice());
     Ok(())
 }
 

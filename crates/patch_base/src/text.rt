@@ -124,7 +124,7 @@ pub fn decimal(word: &[u8]) -> Option<u32>
     Some(value)
 }
 
-/// Appends the digits of a number. Want of memory changes nothing.
+/// Appends the digits of a number. Out of memory, nothing changes.
 pub fn put_decimal(n: u64, into: &mut Vec<u8>) -> Result<(), Memory>
     ensures digits { OnOk result (into.new.items ≡ into.old.items ++ decimal_text n) }
     ensures refused { OnErr result (into.new.items ≡ into.old.items) }

@@ -150,7 +150,7 @@ pub proper_formed : (texts : List (List ℕ)) (rows columns : ℕ) (ls : List Li
 proper_formed [] rows columns ls f = absurd f
 proper_formed (head ∷ rest) rows columns ls f = proper_body [] rest ls proper_none f.1
 
--- the lines found so far lead on to a whole body, and a break behind them is one of the whole
+-- the lines found so far lead on to a whole body, and a break after them is one of the whole
 pub record Reads (texts : List (List ℕ)) (found : List Line) (rest : List (List ℕ)) (number : ℕ) : Type 0 where
   pub all : (ls : List Line) → Body found rest ls → Body [] texts ls
   pub bad : (n : ℕ) → BadBody found rest n → BadBody [] texts (n + (number - 2))

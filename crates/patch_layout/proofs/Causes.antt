@@ -1,4 +1,4 @@
--- A text is refused for one cause at most, want of memory aside.
+-- A text is refused for one cause at most, being out of memory aside.
 use Rattle.std.proofs.Common.{◌≡◌, ◌≢◌, ◌⊎◌, inl, inr, ℕ, zero, suc, Bool, true, ◌<◌, ◌≤◌, Some, Result, Ok, Err, MatchResult, IfOk, IfErr, List, [], ◌∷◌, refl, sym, ◌∙◌, subst, ap, arith}
 use Rattle.std.proofs.lemmas.Bool.{cases_lt}
 use Rattle.patch_base.specs.Texts.{lines}
@@ -273,7 +273,7 @@ refused_one text w e f le lf r s = elim (cases_lt (rank e) (rank f)) [
   ]
 ]
 
--- a text with a cause is refused for it, or for want of memory
+-- a text with a cause is refused for it, or where memory is out
 pub read_told : (text : List ℕ) (w : Wanted) (r : Result Grid LayoutFault) → IfOk r (StandsFor text) → IfOk r (λ g. Open g w) → IfErr r (Refused text w) → (f : LayoutFault) → f ≢ fault.Memory → Refused text w f
     → MatchResult r (λ _. ⊥) (λ e. (e ≡ f) ⊎ (e ≡ fault.Memory))
 read_told text w (Ok g) stands opened refused f other cause = other (open_read text w g f stands opened cause)

@@ -14,6 +14,7 @@ use Rattle.patch_layout.specs.Region.{Touches, Fit, AreJoined, sides_of, sides_f
 use Rattle.patch_layout.specs.Certificate.{Case, Certified, CellFits, ParentFits, PortFits, Patched, Each}
 use Rattle.patch_layout.specs.Case.{Ascending}
 use Rattle.patch_layout.specs.Tree.{TouchEach}
+use Rattle.patch_layout.proofs.Asked.{side_count_is}
 use Rattle.patch_layout.proofs.Places.{same_entry, get_below, Contains_from_get}
 use Rattle.patch_layout.proofs.Fits.{certified_fits}
 
@@ -83,7 +84,7 @@ certified_both g axis port cells parents touches sides sound asked some sizes fi
         (
           (
             (
-              record { some = some; as_many_parents = sizes; as_many_touches = p.0; patched = fit_patched g axis port cells fit },
+              record { some = some; as_many_parents = sizes; as_many_touches = omega (arith, p.0, side_count_is g axis (is_some port) port (fit_port g axis port cells fit)); patched = fit_patched g axis port cells fit },
               fit_port g axis port cells fit,
             ),
             cells_fit g cells fit.ancilla up,

@@ -32,7 +32,7 @@ one_fits g cells touches k s fits (suc i) t is = absurd (cc)
 pub one_bad : (g : Grid) (cells touches : List ℕ) (k : ℕ) (s : Side) → (TouchAt g cells touches k s → ⊥) → BadFrom g cells touches k (s ∷ []) (Some k)
 one_bad g cells touches k s bad = (0, s, omega arith, refl, bad, λ j t lt is. absurd (omega arith))
 
--- behind sides whose touches fit
+-- after sides whose touches fit
 pub none_later : (g : Grid) (cells touches : List ℕ) (k n : ℕ) (xs ys : List Side) → BadFrom g cells touches k xs None → n ≡ k + length xs → BadFrom g cells touches n ys None → BadFrom g cells touches k (xs ++ ys) None
 none_later g cells touches k n xs ys fits e more i s is = elim (cases_lt i (length xs)) [
   | inl lt ↦ fits i s (let f = get_front xs ys i lt in cc)
@@ -68,7 +68,7 @@ some_later g cells touches k n bad xs ys fits e (i, s, at', is, not-on, before) 
   ],
 )
 
--- more sides behind the first bad one
+-- more sides after the first bad one
 pub some_kept : (g : Grid) (cells touches : List ℕ) (k bad : ℕ) (xs ys : List Side) → BadFrom g cells touches k xs (Some bad) → BadFrom g cells touches k (xs ++ ys) (Some bad)
 some_kept g cells touches k bad xs ys (i, s, at', is, not-on, before) =
     let in' : i < length xs = slice_get_within xs i s is in

@@ -4,7 +4,6 @@ pub mod Places
 pub mod Walking
 pub mod Neighbours
 pub mod Looking
-pub mod Tracing
 pub mod Fits
 pub mod Judging
 pub mod OnSides
@@ -21,3 +20,6 @@ pub mod Laying
 pub mod Refusing
 pub mod Once
 pub mod Causes
+pub mod Orders
+pub mod Certificates
+pub mod Laws

@@ -138,7 +138,7 @@ open_not g w fault.Size o b = b
 open_not g w (fault.Overlap c) o b = b
 open_not g w fault.Memory o b = b
 
--- a text that stands for an open grid is refused for want of memory alone
+-- a text that stands for an open grid is refused only where memory is out
 stands_open : (text : List ℕ) (w : Wanted) (g h : Grid) (f : LayoutFault) → StandsFor text g → Open g w → StandsFor text h → Opens h w (Some f) → ⊥
 stands_open text w g h f s o t cause = let P : Grid → Type 0 = λ x. Opens x w (Some f) in open_not g w f o (subst P (sym (stands_one text g h s t)) cause)
 

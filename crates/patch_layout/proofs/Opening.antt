@@ -11,11 +11,11 @@ use Rattle.patch_layout.specs.declared.layout.Side.{Side}
 use Rattle.patch_layout.specs.Region.{OnSide}
 use Rattle.patch_layout.specs.Row.{IsUsed}
 use Rattle.patch_layout.proofs.OnSides.{none_on}
-use Rattle.patch_layout.specs.Spread.{Marked, Spread, Walked, OnGoal}
+use Rattle.patch_layout.specs.Spread.{Marked, Spread}
 use Rattle.patch_layout.specs.Openness.{Least, Lacks, HasPatches, CutFrom, IsSplit, IsWhole, HasSide, SidesOpen, HasPort, PortShut}
 use Rattle.patch_layout.proofs.Places.{item_is}
 use Rattle.patch_layout.proofs.Fits.{joins_on, joins_back}
-use Rattle.patch_layout.proofs.Trees.{walked_all, only, leads_wider}
+use Rattle.patch_layout.proofs.Trees.{only, leads_wider}
 use Rattle.patch_layout.proofs.Walking.{reaches}
 
 -- one more number
@@ -75,11 +75,11 @@ queue_joined g Free first head queue seen start s (suc n) k r lt is = elim (s.ca
       (cs ++ r.cell ∷ [], p, leads_one g Free cs first f.base.cell r.cell leads f.adjacent f.free)
 ]
 
-pub cut_off_done : (g : Grid) (free seen : List Bool) (first : ℕ) (queue : List Reached) (found : Option ℕ) → IsAncilla g first → ((c : ℕ) → Marked free c ↔ IsAncilla g c)
-    → Walked g (Marked free) (first ∷ []) (OnGoal (None ∷ None ∷ [])) queue seen found
+pub cut_off_done : (g : Grid) (free seen : List Bool) (first : ℕ) (queue : List Reached) → IsAncilla g first → ((c : ℕ) → Marked free c ↔ IsAncilla g c)
+    → Spread g (Marked free) (first ∷ []) queue (length queue) seen
     → (c : ℕ) → (Marked seen c → Joins g (IsAncilla g) first c) × (Joins g (IsAncilla g) first c → Marked seen c)
-cut_off_done g free seen first queue found start said w c =
-    let s = walked_all g (Marked free) (first ∷ []) queue seen found w in
+cut_off_done g free seen first queue start said w c =
+    let s = w in
     let free-start = (said first).1 start in (
       λ m.
           let (k, r, is, cell) = s.marked c m in
@@ -96,14 +96,14 @@ cut_off_done g free seen first queue found start said w c =
     )
 
 -- what is left unseen is cut off
-pub cut_off_is : (g : Grid) (free seen : List Bool) (first : ℕ) (queue : List Reached) (found unseen : Option ℕ) → IsAncilla g first → ((c : ℕ) → Marked free c ↔ IsAncilla g c)
-    → Walked g (Marked free) (first ∷ []) (OnGoal (None ∷ None ∷ [])) queue seen found
+pub cut_off_is : (g : Grid) (free seen : List Bool) (first : ℕ) (queue : List Reached) (unseen : Option ℕ) → IsAncilla g first → ((c : ℕ) → Marked free c ↔ IsAncilla g c)
+    → Spread g (Marked free) (first ∷ []) queue (length queue) seen
     → MatchOption unseen ((c : ℕ) → Marked free c → Marked seen c) (Least (λ c. Marked free c × (Marked seen c → ⊥)))
     → MatchOption unseen ((c : ℕ) → IsAncilla g c → Joins g (IsAncilla g) first c) (Least (CutFrom g first))
-cut_off_is g free seen first queue found None start said w all = λ c is. (cut_off_done g free seen first queue found start said w c).0 (all c ((said c).1 is))
-cut_off_is g free seen first queue found (Some c) start said w least = (
-  ((said c).0 least.0.0, λ j. least.0.1 ((cut_off_done g free seen first queue found start said w c).1 j)),
-  λ m lt (is, cut). least.1 m lt ((said m).1 is, λ marked. cut ((cut_off_done g free seen first queue found start said w m).0 marked)),
+cut_off_is g free seen first queue None start said w all = λ c is. (cut_off_done g free seen first queue start said w c).0 (all c ((said c).1 is))
+cut_off_is g free seen first queue (Some c) start said w least = (
+  ((said c).0 least.0.0, λ j. least.0.1 ((cut_off_done g free seen first queue start said w c).1 j)),
+  λ m lt (is, cut). least.1 m lt ((said m).1 is, λ marked. cut ((cut_off_done g free seen first queue start said w m).0 marked)),
 )
 
 -- all cells that are joined to one are joined to each other

@@ -1,12 +1,12 @@
 -- The tree of parents is written, and fits.
-use Rattle.std.proofs.Common.{◌≡◌, ◌≢◌, ℕ, zero, suc, Bool, true, ◌+◌, ◌<◌, inl, inr, length, map, take, slice_get, slice_set, get_or, Option, Some, None, List, [], ◌∷◌, ◌++◌, refl, sym, subst, arith, Contains, All, AllPairs, length-take, ap, drop}
+use Rattle.std.proofs.Common.{◌≡◌, ◌≢◌, ℕ, zero, suc, Bool, true, ◌+◌, ◌<◌, inl, inr, length, map, take, slice_get, slice_set, get_or, Some, List, [], ◌∷◌, ◌++◌, refl, sym, subst, arith, Contains, All, AllPairs, length-take, ap, drop}
 use Rattle.std.proofs.lemmas.Option.{slice_get_within, slice_get-get_or, get_or_from_slice_get}
 use Rattle.std.proofs.lemmas.Bool.{cases_lt}
 use Rattle.std.proofs.lemmas.List.{take_more}
 use Rattle.patch_layout.specs.declared.walk.Reached.{Reached}
 use Rattle.patch_layout.specs.declared.plan.Parent.{Parent}
 use Rattle.patch_layout.specs.Grid.{Grid, Adjacent, Leads, Joins}
-use Rattle.patch_layout.specs.Spread.{Marked, Spread, starting, Walked, OnGoal}
+use Rattle.patch_layout.specs.Spread.{Marked, Spread, starting}
 use Rattle.patch_layout.specs.Tree.{Placed, Tree, Named}
 use Rattle.patch_layout.specs.Region.{AreJoined}
 use Rattle.patch_layout.specs.Certificate.{ParentFits, Each}
@@ -14,7 +14,6 @@ use Rattle.patch_layout.proofs.Places.{same_entry, get_below, get_cases, get_set
 use Rattle.patch_layout.proofs.Looking.{begun_more, one_place}
 use Rattle.patch_layout.proofs.Walking.{reaches}
 use Rattle.patch_layout.proofs.Neighbours.{neighbour_back}
-use Rattle.patch_layout.proofs.OnSides.{none_on}
 
 pub get_taken : {X : Type 0} (xs : List X) (n k : ℕ) (x : X) → slice_get (take n xs) k ≡ Some x → (k < n) × (slice_get xs k ≡ Some x)
 get_taken [] zero k x h = absurd (cc)
@@ -155,9 +154,9 @@ tree_fits g cells marks places parents first queue seen at-first distinct p s na
             let r-first : first ≡ r.cell = only first r.cell start.2 in
             let i-zero : 0 ≡ i = one_place cells distinct 0 i r.cell (subst (λ (x : ℕ). slice_get cells 0 ≡ Some x) r-first at-first) er-place in
             let eb0 : slice_get queue 0 ≡ Some b = subst (λ (x : ℕ). slice_get queue x ≡ Some b) start.1 eb in
-            let b-first : first ≡ b.cell = elim (s.came 0 b eb0) [ inl st ↦ only first b.cell st.2 | inr f ↦ absurd (omega (arith, f.earlier)) ] in
+            let b-first : first ≡ b.cell = elim (s.came 0 b eb0) [ inl st ↦ only first b.cell st.2 | inr f ↦ absurd {A = first ≡ b.cell} (omega (arith, f.earlier)) ] in
             let j-zero : 0 ≡ j = one_place cells distinct 0 j b.cell (subst (λ (x : ℕ). slice_get cells 0 ≡ Some x) b-first at-first) ej in
-            inl (start.0, omega arith, λ m q lt. absurd (omega arith))
+            inl (start.0, omega arith, λ m q lt at-m none. omega arith)
         | inr f ↦
             let b-is : f.base ≡ b = same_entry queue r.from f.base b f.is eb in
             let (b', j', eb', ej', ep') = named_at cells queue places parents t p.place named r.from b j eb ej in
@@ -176,25 +175,19 @@ tree_fits g cells marks places parents first queue seen at-first distinct p s na
       ],
     )
 
--- a walk without a goal comes to its end
-pub walked_all : (g : Grid) (Free : ℕ → Type 0) (starts : List ℕ) (queue : List Reached) (seen : List Bool) (found : Option ℕ)
-    → Walked g Free starts (OnGoal (None ∷ None ∷ [])) queue seen found → Spread g Free starts queue (length queue) seen
-walked_all g Free starts queue seen None w = w.0
-walked_all g Free starts queue seen (Some k) w = absurd (none_on (w.1.0).cell w.1.2)
-
-pub walked_tree : (g : Grid) (cells : List ℕ) (marks : List Bool) (places : List ℕ) (first : ℕ) (queue q : List Reached) (seen : List Bool) (found : Option ℕ)
-    → slice_get cells 0 ≡ Some first → Placed cells marks places → q ≡ queue → Walked g (Marked marks) (first ∷ []) (OnGoal (None ∷ None ∷ [])) queue seen found → Tree cells q
-walked_tree g cells marks places first queue q seen found at-first p e w =
+pub walked_tree : (g : Grid) (cells : List ℕ) (marks : List Bool) (places : List ℕ) (first : ℕ) (queue q : List Reached) (seen : List Bool)
+    → slice_get cells 0 ≡ Some first → Placed cells marks places → q ≡ queue → Spread g (Marked marks) (first ∷ []) queue (length queue) seen → Tree cells q
+walked_tree g cells marks places first queue q seen at-first p e w =
     let P : List Reached → Type 0 = λ x. Tree cells x in
-    subst P (sym e) (tree_of g cells marks places first queue (length queue) seen p (Contains_from_get cells 0 first at-first) (walked_all g (Marked marks) (first ∷ []) queue seen found w))
+    subst P (sym e) (tree_of g cells marks places first queue (length queue) seen p (Contains_from_get cells 0 first at-first) w)
 
-pub walked_parents : (g : Grid) (cells : List ℕ) (marks : List Bool) (places : List ℕ) (parents : List Parent) (first : ℕ) (queue q : List Reached) (seen : List Bool) (found : Option ℕ)
+pub walked_parents : (g : Grid) (cells : List ℕ) (marks : List Bool) (places : List ℕ) (parents : List Parent) (first : ℕ) (queue q : List Reached) (seen : List Bool)
     → slice_get cells 0 ≡ Some first → AllPairs (λ a b. a ≢ b) cells → Placed cells marks places → q ≡ queue
-    → Walked g (Marked marks) (first ∷ []) (OnGoal (None ∷ None ∷ [])) queue seen found → Named q places parents (length q) → AreJoined g cells
+    → Spread g (Marked marks) (first ∷ []) queue (length queue) seen → Named q places parents (length q) → AreJoined g cells
     → Each (ParentFits g cells parents) (length cells)
-walked_parents g cells marks places parents first queue q seen found at-first distinct p e w named joined =
+walked_parents g cells marks places parents first queue q seen at-first distinct p e w named joined =
     let P : List Reached → Type 0 = λ x. Named x places parents (length x) in
-    tree_fits g cells marks places parents first queue seen at-first distinct p (walked_all g (Marked marks) (first ∷ []) queue seen found w) (subst P e named) joined
+    tree_fits g cells marks places parents first queue seen at-first distinct p w (subst P e named) joined
 
 pub take_front : {X : Type 0} (xs ys : List X) → take (length xs) (xs ++ ys) ≡ xs
 take_front [] ys = refl

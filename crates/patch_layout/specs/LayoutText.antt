@@ -51,7 +51,7 @@ Doubles _ _ = ⊥
 abbrev pub Fresh : List Line → Line → Type 0
 Fresh before l = (other : Line) → Contains before other → Doubles other l → ⊥
 
--- a text line behind these lines is passed over, or spells a fresh line that is added to them
+-- a text line after these lines is passed over, or spells a fresh line that is added to them
 abbrev pub Takes : List Line → List ℕ → List Line → Type 0
 Takes before text after = (IsSkipped text × (after ≡ before)) ⊎ ((l : Line) × Spells text l × Fresh before l × (after ≡ before ++ l ∷ []))
 
@@ -59,7 +59,7 @@ Takes before text after = (IsSkipped text × (after ≡ before)) ⊎ ((l : Line)
 abbrev pub Breaks : List Line → List ℕ → Type 0
 Breaks before text = (IsSkipped text → ⊥) × ((l : Line) → Spells text l → Fresh before l → ⊥)
 
--- the text lines behind these lines add to them one after another, and all of them are then these
+-- the text lines after these lines add to them one after another, and all of them are then these
 abbrev pub Body : List Line → List (List ℕ) → List Line → Type 0
 Body before [] all = all ≡ before
 Body before (text ∷ texts) all = (after : List Line) × Takes before text after × Body after texts all

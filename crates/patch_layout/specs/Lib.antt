@@ -11,3 +11,4 @@ pub mod Look
 pub mod Openness
 pub mod LayoutText
 pub mod Reading
+pub mod Laws

@@ -10,7 +10,7 @@ use Rattle.patch_layout.specs.Spread.{Marked}
 use Rattle.patch_layout.specs.Openness.{Least}
 use Rattle.patch_layout.specs.LayoutText.{InRange, side_word, cell_of, site_of, Doubles, BadBody, FirstBad, Sized, Twice}
 
--- what a line has behind its first word
+-- what a line has after its first word
 
 abbrev pub PatchAfter : List (List ℕ) → Line → Type 0
 PatchAfter ws (line.Patch qubit cell level) = (ws ≡ decimal qubit ∷ decimal cell ∷ side_word level ∷ []) × InRange (line.Patch qubit cell level)
@@ -37,7 +37,7 @@ pub record Keyed (before : List Line) (qubits factories : List Bool) : Type 0 wh
   pub had : (l : Line) → HasKey qubits factories l → (other : Line) × Contains before other × Doubles other l
   pub has : (l other : Line) → Contains before other → Doubles other l → HasKey qubits factories l
 
--- why the text lines behind the first one are refused
+-- why the text lines after the first one are refused
 abbrev pub BodyRefused : List (List ℕ) → LayoutFault → Type 0
 BodyRefused texts (fault.Form line) = (n : ℕ) × (line ≡ n + 2) × BadBody [] texts n
 BodyRefused texts fault.Memory = Unit {0}

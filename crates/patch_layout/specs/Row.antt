@@ -11,7 +11,7 @@ use Rattle.patch_layout.specs.Grid.{Grid, Wanted, Open, IsAncilla, IsPort}
 use Rattle.patch_layout.specs.Region.{Fit}
 use Rattle.patch_layout.specs.Case.{Ascending}
 
--- a level patch for each of n qubits from q on, and then the port of factory 0 with a store of 1, each behind an ancilla cell
+-- a level patch for each of n qubits from q on, and then the port of factory 0 with a store of 1, each after an ancilla cell
 abbrev pub patch_row : ℕ → ℕ → List Site
 patch_row q zero = site.Ancilla ∷ site.Port 0 true 1 ∷ []
 patch_row q (suc n) = site.Ancilla ∷ site.Patch q true ∷ patch_row (q + 1) n

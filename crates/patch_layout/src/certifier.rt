@@ -17,7 +17,7 @@ use patch_base::Memory;
 use pauli_product::Product;
 use std::alloc::Global;
 
-/// Marks the cells, and notes the place of each.
+// Marks the cells, and notes the place of each.
 fn place(cells: &[u32], marks: &mut [bool], places: &mut [u32])
     requires cells { All (λ c. c < length marks.old) cells.now }
     requires sizes { length places.old ≡ length marks.old }
@@ -32,7 +32,7 @@ fn place(cells: &[u32], marks: &mut [bool], places: &mut [u32])
     }
 }
 
-/// Writes the parent of the cell of each entry.
+// Writes the parent of the cell of each entry.
 fn name_parents(cells: &[u32], queue: &[Reached], places: &[u32], parents: &mut [Parent])
     requires tree { Tree cells.now queue.now }
     requires places { (i c : ℕ) → slice_get cells.now i ≡ Some c → slice_get places.now c ≡ Some i }
@@ -50,7 +50,7 @@ fn name_parents(cells: &[u32], queue: &[Reached], places: &[u32], parents: &mut 
     }
 }
 
-/// Writes the parents that a breadth-first walk inside the region from its first cell gives.
+// Writes the parents that a breadth-first walk inside the region from its first cell gives.
 fn root_at_first(
     layout: &Layout,
     cells: &[u32],
@@ -71,12 +71,12 @@ fn root_at_first(
 {
     place(cells, marks, places);
     let first = [cells[0]];
-    let _ = spread(layout, marks, &first, [None, None], seen, queue)?;
+    spread(layout, marks, &first, seen, queue)?;
     name_parents(cells, queue, places, parents);
     Ok(())
 }
 
-/// A parent for each cell, which fit where the region is joined.
+// A parent for each cell, which fit where the region is joined.
 fn parents_of(alloc: Global, layout: &Layout, cells: &[u32]) -> Result<Vec<Parent>, Memory>
     requires some { 0 < length cells.now }
     requires cells { Each (CellFits layout.now cells.now) (length cells.now) }
@@ -101,7 +101,7 @@ fn parents_of(alloc: Global, layout: &Layout, cells: &[u32]) -> Result<Vec<Paren
     Ok(parents)
 }
 
-/// Whether there are cells, and they are ancilla cells and ascend.
+// Whether there are cells, and they are ancilla cells and ascend.
 fn cells_fit(layout: &Layout, cells: &[u32]) -> bool
     ensures value { IsTrue result ↔ ((0 < length cells.now) × Each (CellFits layout.now cells.now) (length cells.now)) }
     ensures sound { Sound layout.now }

@@ -2,7 +2,7 @@
 
 ghost use Rattle.std.specs.Prelude.{◌≡◌, ℕ, ◌+◌, ◌<◌, ◌≤◌, ◌^◌, ◌↔◌, length, slice_get, List, Option, Some, None, IsTrue, MatchOption, IfNone, ◌∷◌, []};
 ghost use Rattle.patch_layout.specs.Grid.{IsAncilla, Adjacent, Sound};
-ghost use Rattle.patch_layout.specs.Certificate.{CellFits, ParentFits, TouchFits, Judged, Each, PortFits, IsRoot, IsChild, NoRootBefore, Patched, LetterPatched, Shaped, TouchAt, BadFrom, Checked};
+ghost use Rattle.patch_layout.specs.Certificate.{CellFits, ParentFits, TouchFits, Judged, Each, PortFits, IsRoot, IsChild, NoRootBefore, Patched, LetterPatched, Shaped, side_count, TouchAt, BadFrom, Checked};
 ghost use Rattle.patch_layout.specs.Region.{Fit, sides_of, port_side, wanted_sides};
 ghost use Rattle.patch_layout.specs.Case.{case, case_of};
 
@@ -10,7 +10,7 @@ use crate::layout::{Edge, Layout, Side, is_on};
 use crate::plan::{Fault, Parent, Plan};
 use pauli_product::{Letter, Product};
 
-/// Whether a rotation names a port that is there, or a measurement none.
+// Whether a rotation names a port that is there, or a measurement none.
 fn port_fits(layout: &Layout, rotation: bool, port: Option<u32>) -> bool
     ensures { IsTrue result ↔ PortFits layout.now rotation port }
 {
@@ -23,7 +23,7 @@ fn port_fits(layout: &Layout, rotation: bool, port: Option<u32>) -> bool
     }
 }
 
-/// Whether the cell is an ancilla cell, and greater than the one before it.
+// Whether the cell is an ancilla cell, and greater than the one before it.
 fn cell_fits(layout: &Layout, cells: &[u32], index: usize) -> bool
     requires { index < length cells.now }
     ensures { IsTrue result ↔ CellFits layout.now cells.now index }
@@ -45,7 +45,7 @@ pub fn bad_cell(layout: &Layout, cells: &[u32]) -> Option<u32>
     None
 }
 
-/// Whether the entry names the entry of a neighbouring cell whose depth is one less.
+// Whether the entry names the entry of a neighbouring cell whose depth is one less.
 fn is_child(
     layout: &Layout,
     cells: &[u32],
@@ -66,7 +66,7 @@ fn is_child(
     parents[named].depth == parent.depth - 1 && layout.adjacent(cells[index], cells[named])
 }
 
-/// Whether the entry is the first of depth 0 and names itself, or is a child.
+// Whether the entry is the first of depth 0 and names itself, or is a child.
 fn parent_fits(
     layout: &Layout,
     cells: &[u32],
@@ -87,7 +87,7 @@ fn parent_fits(
     first && parent.index as usize == index
 }
 
-/// Whether no entry up to this one has depth 0.
+// Whether no entry up to this one has depth 0.
 fn stays_first(parents: &[Parent], index: usize, first: bool) -> bool
     requires index { index < length parents.now }
     requires first { IsTrue first ↔ NoRootBefore parents.now index }
@@ -97,7 +97,7 @@ fn stays_first(parents: &[Parent], index: usize, first: bool) -> bool
     if parent.depth > 0 { first } else { false }
 }
 
-/// The first entry that is neither the one root nor a child.
+// The first entry that is neither the one root nor a child.
 fn bad_parent(layout: &Layout, cells: &[u32], parents: &[Parent]) -> Option<u32>
     requires cells { Each (CellFits layout.now cells.now) (length cells.now) }
     requires sizes { length parents.now ≡ length cells.now }
@@ -114,7 +114,7 @@ fn bad_parent(layout: &Layout, cells: &[u32], parents: &[Parent]) -> Option<u32>
     None
 }
 
-/// How many sides a letter asks for.
+// How many sides a letter asks for.
 fn sides_of_letter(letter: Letter) -> u32
     ensures value { (q : ℕ) → result ≡ length (sides_of q letter) }
     ensures few { result ≤ 2 }
@@ -127,18 +127,18 @@ fn sides_of_letter(letter: Letter) -> u32
     }
 }
 
-/// How many sides an axis and a port ask for.
-fn side_count(axis: &Product, port: Option<u32>) -> u32
-    ensures { result ≡ length (wanted_sides axis.now port) }
+// How many sides a product asks for: those of its letters, and for a rotation the port's.
+fn side_count(axis: &Product, rotation: bool) -> u32
+    ensures { result ≡ side_count axis.now rotation }
 {
     let mut count = 0;
     for qubit in 0..axis.len() {
         count += sides_of_letter(axis.letter(qubit));
     }
-    if port.is_some() { count + 1 } else { count }
+    if rotation { count + 1 } else { count }
 }
 
-/// Whether a letter is I, or the qubit has a patch.
+// Whether a letter is I, or the qubit has a patch.
 fn letter_patched(layout: &Layout, qubit: u32, letter: Letter) -> bool
     ensures { IsTrue result ↔ LetterPatched layout.now qubit letter }
 {
@@ -151,7 +151,7 @@ fn letter_patched(layout: &Layout, qubit: u32, letter: Letter) -> bool
     }
 }
 
-/// Whether a patch stands at each letter other than I.
+// Whether a patch stands at each letter other than I.
 fn is_patched(layout: &Layout, axis: &Product) -> bool
     ensures { IsTrue result ↔ Patched layout.now axis.now.letters }
 {
@@ -163,27 +163,28 @@ fn is_patched(layout: &Layout, axis: &Product) -> bool
     true
 }
 
-/// Whether there are cells, a parent for each, a touch for each side that is asked for, and the patches.
+// Whether there are cells, a parent for each, a touch for each side that the product asks for,
+// and the patches.
 fn is_shaped(
     layout: &Layout,
     axis: &Product,
-    port: Option<u32>,
+    rotation: bool,
     cells: &[u32],
     parents: &[Parent],
     touches: &[u32],
 ) -> bool
-    ensures { IsTrue result ↔ Shaped layout.now axis.now port cells.now parents.now touches.now }
+    ensures { IsTrue result ↔ Shaped layout.now axis.now rotation cells.now parents.now touches.now }
 {
     if cells.is_empty() || parents.len() != cells.len() {
         return false;
     }
-    if touches.len() != side_count(axis, port) as usize {
+    if touches.len() != side_count(axis, rotation) as usize {
         return false;
     }
     is_patched(layout, axis)
 }
 
-/// Whether the touch at a place is the index of a cell on the side.
+// Whether the touch at a place is the index of a cell on the side.
 fn touch_fits(layout: &Layout, cells: &[u32], touches: &[u32], place: u32, side: Side) -> bool
     ensures { IsTrue result ↔ TouchAt layout.now cells.now touches.now place side }
 {
@@ -198,7 +199,7 @@ fn touch_fits(layout: &Layout, cells: &[u32], touches: &[u32], place: u32, side:
     is_on(layout.side(side), cells[index])
 }
 
-/// The place, where the touch there doesn't fit.
+// The place, where the touch there doesn't fit.
 fn bad_at(layout: &Layout, cells: &[u32], touches: &[u32], place: u32, side: Side) -> Option<u32>
     ensures { BadFrom layout.now cells.now touches.now place (side ∷ []) result }
 {
@@ -209,7 +210,7 @@ fn bad_at(layout: &Layout, cells: &[u32], touches: &[u32], place: u32, side: Sid
     }
 }
 
-/// The first place from one on where the touch of a letter's side doesn't fit.
+// The first place from one on where the touch of a letter's side doesn't fit.
 fn bad_in_letter(
     layout: &Layout,
     cells: &[u32],
@@ -240,7 +241,7 @@ fn bad_in_letter(
     }
 }
 
-/// The place, where the touch there doesn't fit the port's side.
+// The place, where the touch there doesn't fit the port's side.
 fn bad_at_port(
     layout: &Layout,
     cells: &[u32],
@@ -256,7 +257,7 @@ fn bad_at_port(
     }
 }
 
-/// The first place where the touch of a side doesn't fit.
+// The first place where the touch of a side doesn't fit.
 fn bad_touch(
     layout: &Layout,
     axis: &Product,
@@ -277,7 +278,7 @@ fn bad_touch(
     bad_at_port(layout, cells, touches, place, port)
 }
 
-/// The first rule that a certificate breaks.
+// The first rule that a certificate breaks.
 fn first_fault(
     layout: &Layout,
     rotation: bool,
@@ -291,7 +292,7 @@ fn first_fault(
     ensures sound { Sound layout.now }
 {
     let _ = layout.size();
-    if !is_shaped(layout, axis, port, cells, parents, touches) {
+    if !is_shaped(layout, axis, rotation, cells, parents, touches) {
         return Some(Fault::Shape);
     }
     if !port_fits(layout, rotation, port) {

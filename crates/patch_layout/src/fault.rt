@@ -35,8 +35,8 @@ pub enum LayoutFault {
     /// The least factory whose port has no ancilla neighbour on a Z side.
     #[error("the port of factory {factory} is shut")]
     ShutPort { factory: u32 },
-    /// Want of memory.
-    #[error("want of memory")]
+    /// Out of memory.
+    #[error("out of memory")]
     Memory,
 }
 

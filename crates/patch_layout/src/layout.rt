@@ -18,7 +18,7 @@ pub enum Edge {
 }
 
 impl Edge {
-    /// Whether the sides of this kind lie left and right.
+    // Whether the sides of this kind lie left and right.
     fn lies_level(self, level: bool) -> bool
         ensures { result ≡ lies_level level self }
     {
@@ -205,7 +205,7 @@ impl Layout {
         }
     }
 
-    /// The ancilla cells to the left and the right, or above and below.
+    // The ancilla cells to the left and the right, or above and below.
     fn beside(&self, cell: u32, level: bool) -> [Option<u32>; 2]
         requires { cell < length self.now.sites }
         ensures { result ≡ beside self.now level cell }
@@ -218,7 +218,7 @@ impl Layout {
         }
     }
 
-    /// The cell, where there is one and it is an ancilla cell.
+    // The cell, where there is one and it is an ancilla cell.
     fn ancilla(&self, cell: Option<u32>) -> Option<u32>
         ensures { result ≡ ancilla self.now cell }
     {
@@ -277,7 +277,7 @@ impl Layout {
         }
     }
 
-    /// `sides`, and two None for a number that is no cell's.
+    // `sides`, and two None for a number that is no cell's.
     fn sides_within(&self, cell: u32, edge: Edge) -> [Option<u32>; 2]
         ensures value { result ≡ sides self.now cell edge }
         ensures ascending { Ascend result }
@@ -310,7 +310,7 @@ impl Layout {
     }
 }
 
-/// What a table has at a number, and None past its end.
+// What a table has at a number, and None past its end.
 fn entry(table: &[Option<u32>], at: u32) -> Option<u32>
     ensures { (c : ℕ) → (result ≡ Some c) ↔ (slice_get table.now at ≡ Some (Some c)) }
 {

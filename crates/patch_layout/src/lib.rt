@@ -4,27 +4,28 @@
 mod certifier;
 mod checker;
 mod fault;
+mod law;
 mod layout;
 mod line;
 mod look;
 mod openness;
 mod plan;
-#[cfg(test)]
-mod read_tests;
 mod reader;
 mod row;
 mod tables;
-#[cfg(test)]
-mod tests;
 mod touch;
 mod walk;
 
 pub use certifier::certify;
 pub use checker::check;
 pub use fault::LayoutFault;
+pub use law::{
+    law_certificate, law_certified_ascends, law_certified_fits, law_neighbours, law_row_patches,
+    law_sides,
+};
 pub use layout::{Edge, Layout, Side, Site, Tile};
 pub use look::{HeldList, Look};
 pub use plan::{CellList, Fault, Parent, ParentList, Plan, TouchList};
 pub use row::{law_whole_fits, whole_region};
 pub use touch::wanted;
-pub use walk::{Reached, join};
+pub use walk::Reached;

@@ -61,7 +61,7 @@ impl Line {
     }
 }
 
-/// Takes a decimal off the words.
+// Takes a decimal off the words.
 fn number(words: &mut Words) -> Option<u32>
     ensures value { IfSome result (λ v. (v < 2 ^ 32) × (words.old ≡ decimal_text v ∷ words.new)) }
     ensures other { IfNone result ((v : ℕ) (rest : List (List ℕ)) → v < 2 ^ 32 → words.old ≡ decimal_text v ∷ rest → ⊥) }
@@ -70,7 +70,7 @@ fn number(words: &mut Words) -> Option<u32>
     decimal(word)
 }
 
-/// Takes the name of a side off the words: `h` where the X sides lie left and right, `v` where they lie above and below.
+// Takes the name of a side off the words: `h` where the X sides lie left and right, `v` where they lie above and below.
 fn side(words: &mut Words) -> Option<bool>
     ensures value { IfSome result (λ level. words.old ≡ side_word level ∷ words.new) }
     ensures other { IfNone result ((level : Bool) (rest : List (List ℕ)) → words.old ≡ side_word level ∷ rest → ⊥) }
@@ -83,14 +83,14 @@ fn side(words: &mut Words) -> Option<bool>
     }
 }
 
-/// Whether a word is this one.
+// Whether a word is this one.
 fn is_word(word: &[u8], wanted: &[u8]) -> bool
     ensures { IsTrue result ↔ (word.now ≡ wanted.now) }
 {
     word == wanted
 }
 
-/// Whether the next word is this one, which is taken off.
+// Whether the next word is this one, which is taken off.
 fn is_next(words: &mut Words, wanted: &[u8]) -> bool
     ensures yes { IsTrue result → words.old ≡ wanted.now ∷ words.new }
     ensures no { IsFalse result → (rest : List (List ℕ)) → words.old ≡ wanted.now ∷ rest → ⊥ }
@@ -101,14 +101,14 @@ fn is_next(words: &mut Words, wanted: &[u8]) -> bool
     }
 }
 
-/// Whether no word is left.
+// Whether no word is left.
 fn is_end(words: &mut Words) -> bool
     ensures { IsTrue result ↔ (words.old ≡ []) }
 {
     words.next_word().is_none()
 }
 
-/// What follows `patch`: a qubit below 1,024, a cell and a side.
+// What follows `patch`: a qubit below 1,024, a cell and a side.
 fn patch(words: &mut Words) -> Option<Line>
     ensures value { IfSome result (PatchAfter words.old) }
     ensures other { IfNone result ((l : Line) → PatchAfter words.old l → ⊥) }
@@ -125,7 +125,7 @@ fn patch(words: &mut Words) -> Option<Line>
     Some(Line::Patch { qubit, cell, level })
 }
 
-/// What follows `port`: a factory below 16, a cell, a side, and a store of 1 to 16.
+// What follows `port`: a factory below 16, a cell, a side, and a store of 1 to 16.
 fn port(words: &mut Words) -> Option<Line>
     ensures value { IfSome result (PortAfter words.old) }
     ensures other { IfNone result ((l : Line) → PortAfter words.old l → ⊥) }
@@ -154,7 +154,7 @@ fn port(words: &mut Words) -> Option<Line>
     })
 }
 
-/// What follows `wall`: a cell.
+// What follows `wall`: a cell.
 fn wall(words: &mut Words) -> Option<Line>
     ensures value { IfSome result (WallAfter words.old) }
     ensures other { IfNone result ((l : Line) → WallAfter words.old l → ⊥) }

@@ -1,66 +1,15 @@
 //! What a planner sees of a board.
 
-ghost use Rattle.std.specs.Prelude.{◌≡◌, ◌<◌, ◌≤◌, length, IfOk, false, replicate, slice_set};
+ghost use Rattle.std.specs.Prelude.{◌≡◌, ◌≤◌, length, IfOk, false, replicate};
 ghost use Rattle.patch_layout.specs.Look.{identity};
 
 use crate::layout::Layout;
-use patch_base::Memory;
+use patch_base::{Listed, Memory};
 use pauli_product::Product;
 use std::alloc::Global;
-use std::marker::Model;
 
-/// The product that holds each cell, which contracts see as a list.
-#[derive(Drop)]
-pub struct HeldList {
-    held: Vec<Option<u32>>,
-}
-
-impl Model for HeldList {
-    ghost use Rattle.std.specs.Prelude.{List, Option, ℕ};
-
-    ghost Value = { List (Option ℕ) };
-
-    ghost view = { λ s. s.held.items };
-}
-
-impl HeldList {
-    /// The list of these holders, cell by cell.
-    pub fn of(held: Vec<Option<u32>>) -> HeldList
-        ensures { result ≡ held.items }
-    {
-        HeldList { held }
-    }
-
-    /// The holders, given back.
-    pub fn into_vec(self) -> Vec<Option<u32>>
-        ensures { result.items ≡ self }
-    {
-        self.held
-    }
-
-    /// The holders, cell by cell.
-    pub fn as_slice(&self) -> &[Option<u32>]
-        ensures { result.now ≡ self.now }
-    {
-        self.held.as_slice()
-    }
-
-    /// Takes over all holders.
-    pub fn copy_from(&mut self, held: &[Option<u32>])
-        requires { length held.now ≡ length self.old }
-        ensures { self.new ≡ held.now }
-    {
-        self.held.copy_from_slice(held);
-    }
-
-    /// Sets the holder of a cell.
-    pub fn set(&mut self, cell: u32, by: Option<u32>)
-        requires { cell < length self.old }
-        ensures { self.new ≡ slice_set self.old cell by }
-    {
-        self.held[cell as usize] = by;
-    }
-}
+/// The product that holds each cell, cell by cell.
+pub type HeldList = Listed<Option<u32>>;
 
 /// What a planner sees of a board: the product that is to be claimed, and what is held and ready.
 #[derive(Drop)]
@@ -87,11 +36,11 @@ impl Look {
     /// A look at product 0 of an empty history: no cell is held, nothing is taken or ready, and the axis is the identity. The fields are the caller's to fill.
     pub fn new(alloc: Global, layout: &Layout, qubits: u32) -> Result<Look, Memory>
         requires { qubits ≤ 1024 }
-        ensures unheld { IfOk result (λ look. look.held ≡ replicate (length layout.now.sites) None) }
-        ensures untaken { IfOk result (λ look. (look.taken ≡ None) × (look.waits ≡ None)) }
-        ensures identity { IfOk result (λ look. look.axis ≡ identity qubits) }
-        ensures first { IfOk result (λ look. (look.product ≡ 0) × (look.length ≡ 0) × (look.rotation ≡ false)) }
-        ensures unready { IfOk result (λ look. look.ready ≡ replicate 16 0) }
+        ensures unheld { IfOk result (λ l. l.held ≡ replicate (length layout.now.sites) None) }
+        ensures untaken { IfOk result (λ l. (l.taken ≡ None) × (l.waits ≡ None)) }
+        ensures identity { IfOk result (λ l. l.axis ≡ identity qubits) }
+        ensures first { IfOk result (λ l. (l.product ≡ 0) × (l.length ≡ 0) × (l.rotation ≡ false)) }
+        ensures unready { IfOk result (λ l. l.ready ≡ replicate 16 0) }
     {
         let held = vec![in alloc; None; layout.size() as usize]?;
         Ok(Look {

@@ -14,7 +14,7 @@ use crate::walk::{Reached, spread};
 use patch_base::{Memory, Need};
 use std::alloc::Global;
 
-/// Whether a qubit has a patch if it is used.
+// Whether a qubit has a patch if it is used.
 fn is_served(layout: &Layout, used: bool, qubit: u32) -> bool
     ensures served { IsTrue result → IsTrue used → (c : ℕ) × IsPatch layout.now qubit c }
     ensures lacks { IsFalse result → IsTrue used × ((c : ℕ) → IsPatch layout.now qubit c → ⊥) }
@@ -28,7 +28,7 @@ fn is_served(layout: &Layout, used: bool, qubit: u32) -> bool
     }
 }
 
-/// The least used qubit without a patch.
+// The least used qubit without a patch.
 fn patch_missing(layout: &Layout, used: &[bool], qubits: u32) -> Option<u32>
     requires { length used.now ≡ qubits }
     ensures { MatchOption result (HasPatches layout.now used.now) (Least (Lacks layout.now used.now)) }
@@ -41,7 +41,7 @@ fn patch_missing(layout: &Layout, used: &[bool], qubits: u32) -> Option<u32>
     None
 }
 
-/// The least ancilla cell.
+// The least ancilla cell.
 fn first_cell(layout: &Layout) -> Option<u32>
     ensures { MatchOption result ((c : ℕ) → IsAncilla layout.now c → ⊥) (Least (IsAncilla layout.now)) }
 {
@@ -53,7 +53,7 @@ fn first_cell(layout: &Layout) -> Option<u32>
     None
 }
 
-/// A mark for each ancilla cell.
+// A mark for each ancilla cell.
 fn ancilla_marks(alloc: Global, layout: &Layout) -> Result<Vec<bool>, Memory>
     ensures marks { IfOk result (λ marks. (c : ℕ) → Marked marks.items c ↔ IsAncilla layout.now c) }
     ensures sizes { IfOk result (λ marks. length marks.items ≡ length layout.now.sites) }
@@ -65,7 +65,7 @@ fn ancilla_marks(alloc: Global, layout: &Layout) -> Result<Vec<bool>, Memory>
     Ok(marks)
 }
 
-/// The least free cell that isn't seen.
+// The least free cell that isn't seen.
 fn unseen_cell(free: &[bool], seen: &[bool]) -> Option<u32>
     requires sizes { length free.now ≡ length seen.now }
     requires few { length free.now ≤ 4096 }
@@ -79,7 +79,7 @@ fn unseen_cell(free: &[bool], seen: &[bool]) -> Option<u32>
     None
 }
 
-/// The least ancilla cell that no walk joins to the first one.
+// The least ancilla cell that no walk joins to the first one.
 fn cut_off(
     layout: &Layout,
     first: u32,
@@ -95,11 +95,11 @@ fn cut_off(
     ensures { IfOk result (λ found. MatchOption found ((c : ℕ) → IsAncilla layout.now c → Joins layout.now (IsAncilla layout.now) first c) (Least (CutFrom layout.now first))) }
 {
     let start = [first];
-    let _ = spread(layout, free, &start, [None, None], seen, queue)?;
+    spread(layout, free, &start, seen, queue)?;
     Ok(unseen_cell(free, seen))
 }
 
-/// The least ancilla cell that no walk through ancilla cells joins to the least one.
+// The least ancilla cell that no walk through ancilla cells joins to the least one.
 fn split(alloc: Global, layout: &Layout) -> Result<Option<u32>, Memory>
     ensures { IfOk result (λ found. MatchOption found (IsWhole layout.now) (IsSplit layout.now)) }
 {
@@ -113,7 +113,7 @@ fn split(alloc: Global, layout: &Layout) -> Result<Option<u32>, Memory>
     Ok(found)
 }
 
-/// Whether an ancilla cell lies on a side.
+// Whether an ancilla cell lies on a side.
 fn is_open(layout: &Layout, side: Side) -> bool
     ensures { IsTrue result ↔ ((d : ℕ) × OnSide layout.now side d) }
 {
@@ -121,7 +121,7 @@ fn is_open(layout: &Layout, side: Side) -> bool
     pair[0].is_some() || pair[1].is_some()
 }
 
-/// The first edge of a qubit's patch, X before Z, that has no ancilla cell.
+// The first edge of a qubit's patch, X before Z, that has no ancilla cell.
 fn shut_edge(layout: &Layout, qubit: u32) -> Option<Edge>
     ensures { MatchOption result ((e : Edge) → HasSide layout.now qubit e) (FirstShut layout.now qubit) }
 {
@@ -142,14 +142,14 @@ fn shut_edge(layout: &Layout, qubit: u32) -> Option<Edge>
     None
 }
 
-/// The first edge of a used qubit's patch, X before Z, that has no ancilla cell.
+// The first edge of a used qubit's patch, X before Z, that has no ancilla cell.
 fn shut_if(layout: &Layout, used: bool, qubit: u32) -> Option<Edge>
     ensures { MatchOption result (IsTrue used → (e : Edge) → HasSide layout.now qubit e) (λ e. IsTrue used × FirstShut layout.now qubit e) }
 {
     if used { shut_edge(layout, qubit) } else { None }
 }
 
-/// The least used qubit whose patch has an edge without ancilla cells, and its first such edge.
+// The least used qubit whose patch has an edge without ancilla cells, and its first such edge.
 fn shut(layout: &Layout, used: &[bool], qubits: u32) -> Option<(u32, Edge)>
     requires { length used.now ≡ qubits }
     ensures { MatchOption result (SidesOpen layout.now used.now) (λ s. IsShut layout.now used.now s.0 s.1) }
@@ -162,7 +162,7 @@ fn shut(layout: &Layout, used: &[bool], qubits: u32) -> Option<(u32, Edge)>
     None
 }
 
-/// Whether a cell is a port.
+// Whether a cell is a port.
 fn is_port(layout: &Layout, cell: u32) -> bool
     requires { cell < length layout.now.sites }
     ensures { IsTrue result ↔ ((f : ℕ) × IsPort layout.now f cell) }
@@ -173,7 +173,7 @@ fn is_port(layout: &Layout, cell: u32) -> bool
     }
 }
 
-/// Whether there is a port.
+// Whether there is a port.
 fn has_port(layout: &Layout) -> bool
     ensures { IsTrue result ↔ HasPort layout.now }
 {
@@ -185,7 +185,7 @@ fn has_port(layout: &Layout) -> bool
     false
 }
 
-/// Whether a factory has a port, and no ancilla cell lies on its Z sides.
+// Whether a factory has a port, and no ancilla cell lies on its Z sides.
 fn port_shut(layout: &Layout, factory: u32) -> bool
     ensures shut { IsTrue result → PortShut layout.now factory }
     ensures open { IsFalse result → (c : ℕ) → IsPort layout.now factory c → (d : ℕ) × OnPort layout.now factory d }
@@ -196,7 +196,7 @@ fn port_shut(layout: &Layout, factory: u32) -> bool
     }
 }
 
-/// The least factory whose port has no ancilla cell on a Z side.
+// The least factory whose port has no ancilla cell on a Z side.
 fn shut_port(layout: &Layout) -> Option<u32>
     ensures { MatchOption result (PortsOpen layout.now) (Least (PortShut layout.now)) }
 {

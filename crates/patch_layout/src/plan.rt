@@ -2,7 +2,7 @@
 
 ghost use Rattle.std.specs.Prelude.{◌≡◌, ◌++◌, ◌∷◌, [], is_ok, IfOk, if◌then◌else◌};
 
-use patch_base::Memory;
+use patch_base::{Listed, Memory};
 use pauli_product::Product;
 use std::alloc::Global;
 use std::marker::Model;
@@ -78,80 +78,11 @@ pub struct Parent {
     pub depth: u32,
 }
 
-/// The parents of a plan's cells, which contracts see as a list.
-#[derive(Drop)]
-pub struct ParentList {
-    parents: Vec<Parent>,
-}
+/// The parents of a plan's cells, in the order of the cells.
+pub type ParentList = Listed<Parent>;
 
-impl Model for ParentList {
-    ghost use Rattle.std.specs.Prelude.{List};
-    ghost use Rattle.patch_layout.specs.declared.plan.Parent.{Parent};
-
-    ghost Value = { List Parent };
-
-    ghost view = { λ s. s.parents.items };
-}
-
-impl ParentList {
-    /// The list of these entries.
-    pub fn of(parents: Vec<Parent>) -> ParentList
-        ensures { result ≡ parents.items }
-    {
-        ParentList { parents }
-    }
-
-    /// The entries, given back.
-    pub fn into_vec(self) -> Vec<Parent>
-        ensures { result.items ≡ self }
-    {
-        self.parents
-    }
-
-    /// The entries, in the order of the cells.
-    pub fn as_slice(&self) -> &[Parent]
-        ensures { result.now ≡ self.now }
-    {
-        self.parents.as_slice()
-    }
-}
-
-/// The indices of the cells that touch the sides, which contracts see as a list.
-#[derive(Drop)]
-pub struct TouchList {
-    touches: Vec<u32>,
-}
-
-impl Model for TouchList {
-    ghost use Rattle.std.specs.Prelude.{List, ℕ};
-
-    ghost Value = { List ℕ };
-
-    ghost view = { λ s. s.touches.items };
-}
-
-impl TouchList {
-    /// The list of these indices.
-    pub fn of(touches: Vec<u32>) -> TouchList
-        ensures { result ≡ touches.items }
-    {
-        TouchList { touches }
-    }
-
-    /// The indices, given back.
-    pub fn into_vec(self) -> Vec<u32>
-        ensures { result.items ≡ self }
-    {
-        self.touches
-    }
-
-    /// The indices, in the order of the sides.
-    pub fn as_slice(&self) -> &[u32]
-        ensures { result.now ≡ self.now }
-    {
-        self.touches.as_slice()
-    }
-}
+/// The indices of the cells that touch the sides, in the order of the sides.
+pub type TouchList = Listed<u32>;
 
 /// The first rule that a plan breaks.
 #[derive(Clone, Copy, Debug, PartialEq, Eq)]

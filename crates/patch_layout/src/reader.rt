@@ -21,7 +21,7 @@ use std::alloc::Global;
 
 const BYTES: usize = TEXT_BYTES as usize;
 
-/// The header and the further lines of a layout text.
+// The header and the further lines of a layout text.
 #[derive(Drop)]
 struct Drawing {
     rows: u32,
@@ -44,17 +44,17 @@ impl Layout {
         ensures open { IfOk result (λ layout. Open layout (wanted need.now.used need.now.rotations)) }
         ensures refused { IfErr result (Refused text.now (wanted need.now.used need.now.rotations)) }
 
-        // A text that stands for an open grid is refused for want of memory alone.
+        // A text that stands for an open grid is refused only where memory is out.
         ensures exact { (g : Grid) → StandsFor text.now g → Open g (wanted need.now.used need.now.rotations) → MatchResult result (λ layout. layout ≡ g) (λ f. f ≡ fault.Memory) }
 
-        // A text with a cause to be refused is refused for it, or for want of memory.
+        // A text with a cause to be refused is refused for it, or where memory is out.
         ensures told { (f : LayoutFault) → f ≢ fault.Memory → Refused text.now (wanted need.now.used need.now.rotations) f → MatchResult result (λ _. ⊥) (λ e. (e ≡ f) ⊎ (e ≡ fault.Memory)) }
     {
         read_open(alloc, text, need)
     }
 }
 
-/// The layout that a text stands for, where it is open.
+// The layout that a text stands for, where it is open.
 fn read_open(alloc: Global, text: &[u8], need: &Need) -> Result<Layout, LayoutFault>
     requires { length need.now.used ≡ need.now.qubits }
     ensures stands { IfOk result (StandsFor text.now) }
@@ -73,7 +73,7 @@ fn read_open(alloc: Global, text: &[u8], need: &Need) -> Result<Layout, LayoutFa
     }
 }
 
-/// Marks a number, and tells whether it wasn't marked before.
+// Marks a number, and tells whether it wasn't marked before.
 fn mark(marks: &mut [bool], number: u32) -> bool
     requires { number < length marks.old }
     ensures fresh { IsTrue result → Marked marks.old number → ⊥ }
@@ -86,7 +86,7 @@ fn mark(marks: &mut [bool], number: u32) -> bool
     fresh
 }
 
-/// Marks the qubit or the factory that a line has, and tells whether no line before has it.
+// Marks the qubit or the factory that a line has, and tells whether no line before has it.
 fn take_key(line: Line, qubits: &mut [bool], factories: &mut [bool]) -> bool
     requires ranged { InRange line }
     requires qubits { length qubits.old ≡ 1024 }
@@ -103,7 +103,7 @@ fn take_key(line: Line, qubits: &mut [bool], factories: &mut [bool]) -> bool
     }
 }
 
-/// Adds the line that a text line spells, if it isn't passed over. False where the text line breaks the form.
+// Adds the line that a text line spells, if it isn't passed over. False where the text line breaks the form.
 fn take_line(
     text: &[u8],
     found: &mut Vec<Line>,
@@ -128,7 +128,7 @@ fn take_line(
     Ok(true)
 }
 
-/// The text line that begins at a place, without its line feed, and the place behind it.
+// The text line that begins at a place, without its line feed, and the place after it.
 fn line_at(text: &[u8], at: usize) -> Option<(&[u8], usize)>
     ensures { MatchOption result (lines (drop at text.now) ≡ []) (λ p. (at < p.1) × (p.1 ≤ length text.now) × (lines (drop at text.now) ≡ p.0.now ∷ lines (drop p.1 text.now))) }
 {
@@ -136,7 +136,7 @@ fn line_at(text: &[u8], at: usize) -> Option<(&[u8], usize)>
     Some((&text[line.start..line.end], line.next))
 }
 
-/// Adds the lines that the text lines from a place on spell. The first of them is the second one of the text.
+// Adds the lines that the text lines from a place on spell. The first of them is the second one of the text.
 fn read_lines(
     text: &[u8],
     start: usize,
@@ -162,7 +162,7 @@ fn read_lines(
     Ok(())
 }
 
-/// The lines that the text lines from a place on spell. The first of them is the second one of the text.
+// The lines that the text lines from a place on spell. The first of them is the second one of the text.
 fn read_body(alloc: Global, text: &[u8], start: usize) -> Result<Vec<Line>, LayoutFault>
     requires { length text.now ≤ 4194304 }
     ensures body { IfOk result (λ found. Body [] (lines (drop start text.now)) found.items) }
@@ -175,7 +175,7 @@ fn read_body(alloc: Global, text: &[u8], start: usize) -> Result<Vec<Line>, Layo
     Ok(found)
 }
 
-/// The header and the further lines of a text.
+// The header and the further lines of a text.
 fn read_drawing(alloc: Global, text: &[u8]) -> Result<Drawing, LayoutFault>
     requires { length text.now ≤ 4194304 }
     ensures formed { IfOk result (λ d. Formed (lines text.now) d.rows d.columns d.lines.items) }
@@ -195,7 +195,7 @@ fn read_drawing(alloc: Global, text: &[u8]) -> Result<Drawing, LayoutFault>
     })
 }
 
-/// How many cells there are, where there are 1 to 4,096.
+// How many cells there are, where there are 1 to 4,096.
 fn cell_count(rows: u32, columns: u32) -> Option<u32>
     ensures some { IfSome result (λ n. (n ≡ rows * columns) × (0 < n) × (n ≤ 4096)) }
     ensures none { IfNone result (0 < rows * columns → rows * columns ≤ 4096 → ⊥) }
@@ -208,7 +208,7 @@ fn cell_count(rows: u32, columns: u32) -> Option<u32>
     }
 }
 
-/// Whether all lines name cells below a number.
+// Whether all lines name cells below a number.
 fn are_within(lines: &[Line], cells: u32) -> bool
     ensures { IsTrue result ↔ ((l : Line) → Contains lines.now l → cell_of l < cells) }
 {
@@ -220,7 +220,7 @@ fn are_within(lines: &[Line], cells: u32) -> bool
     true
 }
 
-/// The lesser of two cells, of which the first may be wanting.
+// The lesser of two cells, of which the first may be wanting.
 fn least_of(found: Option<u32>, cell: u32) -> u32
     ensures none { IfNone found (result ≡ cell) }
     ensures some { IfSome found (λ c. (result ≤ c) × (result ≤ cell) × ((result ≡ c) ⊎ (result ≡ cell))) }
@@ -231,7 +231,7 @@ fn least_of(found: Option<u32>, cell: u32) -> u32
     }
 }
 
-/// Makes the cell of each line what the first line that names it says. The answer is the least cell that two lines name.
+// Makes the cell of each line what the first line that names it says. The answer is the least cell that two lines name.
 fn lay(lines: &[Line], sites: &mut [Site]) -> Option<u32>
     requires clear { (c : ℕ) → c < length sites.old → slice_get sites.old c ≡ Some site.Ancilla }
     requires within { (l : Line) → Contains lines.now l → cell_of l < length sites.old }
@@ -249,7 +249,7 @@ fn lay(lines: &[Line], sites: &mut [Site]) -> Option<u32>
     double
 }
 
-/// The layout that these lines make.
+// The layout that these lines make.
 fn lay_out(alloc: Global, rows: u32, columns: u32, lines: &[Line]) -> Result<Layout, LayoutFault>
     requires { Proper lines.now }
     ensures sized { IfOk result (λ _. Sized rows columns lines.now) }

@@ -10,7 +10,7 @@ use crate::plan::CellList;
 use patch_base::{Memory, Need};
 use std::alloc::Global;
 
-/// How many patches the row layout has at most.
+// How many patches the row layout has at most.
 const ROW_PATCHES: u32 = 64;
 
 impl Layout {
@@ -36,7 +36,7 @@ impl Layout {
     }
 }
 
-/// The sites of the row layout with so many patches.
+// The sites of the row layout with so many patches.
 fn row_sites(alloc: Global, patches: u32) -> Result<Vec<Site>, Memory>
     requires { patches ≤ 64 }
     ensures { IfOk result (λ sites. sites.items ≡ (row_grid patches).sites) }
@@ -55,7 +55,7 @@ fn row_sites(alloc: Global, patches: u32) -> Result<Vec<Site>, Memory>
     Ok(sites)
 }
 
-/// The least used qubit from a number on.
+// The least used qubit from a number on.
 fn used_from(used: &[bool], first: u32) -> Option<u32>
     requires { length used.now < 2 ^ 32 }
     ensures { MatchOption result ((q : ℕ) → first ≤ q → IsUsed used.now q → ⊥) (LeastUsedFrom first used.now) }
@@ -79,7 +79,7 @@ pub fn whole_region(alloc: Global, layout: &Layout) -> Result<CellList, Memory>
     Ok(CellList::of(cells))
 }
 
-/// Appends the cell where it is an ancilla cell.
+// Appends the cell where it is an ancilla cell.
 fn push_ancilla(layout: &Layout, cell: u32, cells: &mut Vec<u32>) -> Result<(), Memory>
     requires { cell < length layout.now.sites }
     ensures { IfOk result (λ _. cells.new.items ++ ancilla_from (cell + 1) (drop (cell + 1) layout.now.sites) ≡ cells.old.items ++ ancilla_from cell (drop cell layout.now.sites)) }

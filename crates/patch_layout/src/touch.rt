@@ -9,7 +9,7 @@ use patch_base::Memory;
 use pauli_product::{Letter, Product};
 use std::alloc::Global;
 
-/// Appends the sides that a letter asks for.
+// Appends the sides that a letter asks for.
 fn push_sides(sides: &mut Vec<Side>, qubit: u32, letter: Letter) -> Result<(), Memory>
     ensures { IfOk result (λ _. sides.new.items ≡ sides.old.items ++ sides_of qubit letter) }
 {
@@ -51,7 +51,7 @@ pub fn wanted(alloc: Global, axis: &Product, port: Option<u32>) -> Result<Vec<Si
     Ok(sides)
 }
 
-/// The place of the first cell on the side.
+// The place of the first cell on the side.
 fn touch(layout: &Layout, cells: &[u32], side: Side) -> Option<u32>
     requires { length cells.now ≤ 4096 }
     ensures { Touching layout.now cells.now side result }
@@ -65,7 +65,7 @@ fn touch(layout: &Layout, cells: &[u32], side: Side) -> Option<u32>
     None
 }
 
-/// The place of a cell on the side, where there is one, and else 0.
+// The place of a cell on the side, where there is one, and else 0.
 fn touch_or_first(layout: &Layout, cells: &[u32], side: Side) -> u32
     requires { length cells.now ≤ 4096 }
     ensures { Touches layout.now cells.now side → Touching layout.now cells.now side (Some result) }

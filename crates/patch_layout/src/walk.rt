@@ -2,10 +2,9 @@
 
 ghost use Rattle.std.specs.Prelude.{◌≡◌, ℕ, ◌+◌, ◌*◌, ◌<◌, ◌≤◌, ◌^◌, ◌↔◌, ◌++◌, ◌∷◌, [], length, map, true, slice_get, slice_set, Some, List, IfOk, IsTrue, IsFalse, All, AllPairs, ◌≢◌, Contains, vec_len, if◌then◌else◌};
 ghost use Rattle.patch_layout.specs.Grid.{neighbours, Sound};
-ghost use Rattle.patch_layout.specs.Spread.{Marked, is_new, unseen, starting, Walked, OnGoal};
-ghost use Rattle.patch_layout.specs.Joined.{Grows};
+ghost use Rattle.patch_layout.specs.Spread.{Marked, is_new, unseen, starting, Ended};
 
-use crate::layout::{Layout, is_on};
+use crate::layout::Layout;
 use patch_base::Memory;
 
 /// A cell that a walk reached: the place in the queue that it was reached from, and its steps from the first cells.
@@ -16,7 +15,7 @@ pub struct Reached {
     pub steps: u32,
 }
 
-/// Puts a free cell into the queue that isn't seen yet.
+// Puts a free cell into the queue that isn't seen yet.
 fn reach(
     free: &[bool],
     seen: &mut [bool],
@@ -36,7 +35,7 @@ fn reach(
     Ok(())
 }
 
-/// Starts a walk at these cells.
+// Starts a walk at these cells.
 fn begin(cells: &[u32], seen: &mut [bool], queue: &mut Vec<Reached>) -> Result<(), Memory>
     requires { All (λ c. c < length seen.old) cells.now }
     ensures queue { IfOk result (λ _. queue.new.items ≡ map starting cells.now) }
@@ -56,30 +55,26 @@ fn begin(cells: &[u32], seen: &mut [bool], queue: &mut Vec<Reached>) -> Result<(
     Ok(())
 }
 
-/// Goes on until a cell on the goal comes first in the queue, or until no cell is left.
+// Reaches all free cells that walks lead to from these cells.
 pub fn spread(
     layout: &Layout,
     free: &[bool],
     cells: &[u32],
-    goal: [Option<u32>; 2],
     seen: &mut [bool],
     queue: &mut Vec<Reached>,
-) -> Result<Option<usize>, Memory>
+) -> Result<(), Memory>
     requires free { length free.now ≡ length layout.now.sites }
     requires seen { length seen.old ≡ length layout.now.sites }
     requires cells { All (λ c. c < length layout.now.sites) cells.now }
     requires distinct { AllPairs (λ a b. a ≢ b) cells.now }
     requires few { length cells.now ≤ 4096 }
     requires sound { Sound layout.now }
-    ensures { IfOk result (λ found. Walked layout.now (Marked free.now) cells.now (OnGoal goal) queue.new.items seen.new found) }
+    ensures { IfOk result (λ _. Ended layout.now free.now cells.now queue.new.items seen.new) }
 {
     begin(cells, seen, queue)?;
     let mut head = 0;
     while head < queue.len() {
         let at = queue[head];
-        if is_on(goal, at.cell) {
-            return Ok(Some(head));
-        }
         for next in layout.neighbours(at.cell) {
             if let Some(cell) = next {
                 reach(
@@ -96,41 +91,5 @@ pub fn spread(
         }
         head += 1;
     }
-    Ok(None)
-}
-
-/// Joins the cells to the goal by the least number of free cells, and tells whether that can be done.
-pub fn join(
-    layout: &Layout,
-    free: &[bool],
-    cells: &mut Vec<u32>,
-    goal: [Option<u32>; 2],
-    seen: &mut [bool],
-    queue: &mut Vec<Reached>,
-    path: &mut Vec<u32>,
-) -> Result<bool, Memory>
-    requires free { length free.now ≡ length layout.now.sites }
-    requires seen { length seen.old ≡ length layout.now.sites }
-    requires cells { All (λ c. c < length layout.now.sites) cells.old.items }
-    requires distinct { AllPairs (λ a b. a ≢ b) cells.old.items }
-    requires few { length cells.old.items ≤ 4096 }
-    requires sound { Sound layout.now }
-    ensures { IfOk result (Grows layout.now (Marked free.now) (OnGoal goal) cells.old.items cells.new.items) }
-{
-    let Some(head) = spread(layout, free, cells, goal, seen, queue)? else {
-        return Ok(false);
-    };
-    path.clear();
-    let mut at = head;
-    'back: loop {
-        let here = queue[at];
-        if here.steps == 0 {
-            break;
-        }
-        path.push(here.cell)?;
-        at = here.from as usize;
-    }
-    path.reverse();
-    cells.extend_from_slice(path)?;
-    Ok(true)
+    Ok(())
 }

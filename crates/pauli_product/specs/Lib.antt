@@ -3,6 +3,7 @@ pub mod Signed
 pub mod Pulls
 pub mod Corrections
 pub mod Bits
+pub mod Commuting
 pub mod Rows
 pub mod Spelling
 pub mod Words

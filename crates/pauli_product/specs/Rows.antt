@@ -1,12 +1,8 @@
 -- Worked examples.
-use Rattle.std.specs.Prelude.{◌≡◌, true, List, [], ◌∷◌, refl}
-use Rattle.pauli_product.specs.declared.Letter.{Letter}
+use Rattle.std.specs.Prelude.{◌≡◌, List, [], ◌∷◌, refl}
 use Rattle.pauli_product.specs.declared.Letter.TheVariants.{I, X, Y, Z}
-use Rattle.pauli_product.specs.Signed.{Signed, plus, commute}
+use Rattle.pauli_product.specs.Signed.{plus, minus, commute}
 use Rattle.pauli_product.specs.Pulls.{Turn, turn, conj, carry, pull, quarter, half}
-
-abbrev minus : List Letter → Signed
-minus ls = record { sign = true; letters = ls }
 
 -- i Z X = -Y
 pub z_quarter_of_x : conj (plus (Z ∷ [])) quarter (plus (X ∷ [])) ≡ minus (Y ∷ [])

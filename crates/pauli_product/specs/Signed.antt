@@ -1,5 +1,5 @@
 -- Signed Pauli products as a sign and a letter for each qubit.
-use Rattle.std.specs.Prelude.{◌≡◌, ◌≢◌, ℕ, Bool, false, ◌+◌, ◌%◌, ◌==◌, ◌<◌, if◌then◌else◌, List, [], ◌∷◌, length, slice_get, slice_index_or, Some}
+use Rattle.std.specs.Prelude.{◌≡◌, ◌≢◌, ℕ, Bool, true, false, ◌+◌, ◌%◌, ◌==◌, ◌<◌, if◌then◌else◌, List, [], ◌∷◌, length, slice_get, slice_index_or, Some}
 use Rattle.pauli_product.specs.declared.Letter.{Letter}
 use Rattle.pauli_product.specs.declared.Letter.TheVariants.{I}
 use Rattle.pauli_product.specs.Letters.{letter_product, letter_phase, letters_clash}
@@ -12,6 +12,10 @@ pub record Signed : Type 0 where
 -- these letters with sign +
 abbrev pub plus : List Letter → Signed
 plus ls = record { sign = false; letters = ls }
+
+-- and with sign -
+abbrev pub minus : List Letter → Signed
+minus ls = record { sign = true; letters = ls }
 
 -- letter by letter
 abbrev pub letters_product : List Letter → List Letter → List Letter

@@ -11,9 +11,11 @@ ghost use Rattle.pauli_product.specs.Masks.{all_letters, first_letters, IsClearF
 
 mod law;
 mod word;
+mod words;
 
 use crate::word::Word;
-pub use law::{law_carry, law_commuting, law_conjugation, law_pull};
+use crate::words::Words;
+pub use law::{law_alike, law_carry, law_commuting, law_conjugation, law_products, law_pull};
 use patch_base::Memory;
 use smallvec::SmallVec;
 use std::alloc::Global;
@@ -66,7 +68,7 @@ pub struct Product {
     sign: bool,
     qubits: u32,
     // 64 qubits a word, and I past the last qubit.
-    words: SmallVec<Word, 1>,
+    words: Words,
 }
 
 impl Model for Product {
@@ -75,9 +77,9 @@ impl Model for Product {
 
     ghost Value = { Signed };
 
-    ghost view = { λ p. record { sign = p.sign; letters = first_letters p.qubits p.words.items } };
+    ghost view = { λ p. record { sign = p.sign; letters = first_letters p.qubits p.words.kept.items } };
 
-    ghost invariant = { λ p. HoldsQubits p.qubits p.words.items };
+    ghost invariant = { λ p. HoldsQubits p.qubits p.words.kept.items };
 }
 
 impl Product {
@@ -88,7 +90,7 @@ impl Product {
     {
         let qubits = letters.len() as u32;
         let mut words = words_of_i(alloc, qubits)?;
-        fill(words.as_mut_slice(), letters);
+        fill(words.kept.as_mut_slice(), letters);
         Ok(Product {
             sign,
             qubits,
@@ -132,7 +134,7 @@ impl Product {
     {
         into.reserve(1 + self.qubits as usize)?;
         into.push_reserved(if self.sign { b'-' } else { b'+' });
-        print_words(self.words.as_slice(), self.qubits, into);
+        print_words(self.words.kept.as_slice(), self.qubits, into);
         Ok(())
     }
 
@@ -143,7 +145,9 @@ impl Product {
         Ok(Product {
             sign: self.sign,
             qubits: self.qubits,
-            words: SmallVec::from_slice(alloc, self.words.as_slice())?,
+            words: Words {
+                kept: SmallVec::from_slice(alloc, self.words.kept.as_slice())?,
+            },
         })
     }
 
@@ -154,8 +158,9 @@ impl Product {
     {
         into.sign = self.sign;
         into.words
+            .kept
             .as_mut_slice()
-            .copy_from_slice(self.words.as_slice());
+            .copy_from_slice(self.words.kept.as_slice());
     }
 
     /// Whether the sign is a minus.
@@ -178,7 +183,7 @@ impl Product {
         requires { q < length self.now.letters }
         ensures { slice_get self.now.letters q ≡ Some result }
     {
-        self.words.as_slice()[(q / 64) as usize].letter(q % 64)
+        self.words.kept.as_slice()[(q / 64) as usize].letter(q % 64)
     }
 
     /// Puts a letter at a qubit.
@@ -187,7 +192,7 @@ impl Product {
         ensures sign { self.new.sign ≡ self.old.sign }
         ensures letters { self.new.letters ≡ slice_set self.old.letters q letter }
     {
-        put(self.words.as_mut_slice(), q, letter);
+        put(self.words.kept.as_mut_slice(), q, letter);
     }
 
     /// The first qubit of the support from `from` on: the first whose letter is other than I.
@@ -197,7 +202,7 @@ impl Product {
         ensures first { IfSome result (λ q. (k : ℕ) → from ≤ k → k < q → IsOutside self.now k) }
         ensures none { IfNone result ((k : ℕ) → from ≤ k → IsOutside self.now k) }
     {
-        first_support(self.words.as_slice(), from)
+        first_support(self.words.kept.as_slice(), from)
     }
 
     /// Whether the products commute: they do where they clash on an even number of qubits.
@@ -206,7 +211,7 @@ impl Product {
         requires { length other.now.letters ≡ length self.now.letters }
         ensures { result ≡ commute self.now other.now }
     {
-        clash_count(self.words.as_slice(), other.words.as_slice()) % 2 == 0
+        clash_count(self.words.kept.as_slice(), other.words.kept.as_slice()) % 2 == 0
     }
 
     /// Multiplies the letters, and leaves the sign +.
@@ -218,7 +223,7 @@ impl Product {
         ensures power { result ≡ phase self.old other.now }
         ensures qubits { length self.new.letters ≡ length self.old.letters }
     {
-        let power = multiply(self.words.as_mut_slice(), other.words.as_slice());
+        let power = multiply(self.words.kept.as_mut_slice(), other.words.kept.as_slice());
         let signs = 2 * u32::from(self.sign) + 2 * u32::from(other.sign);
         self.sign = false;
         ((power + signs) % 4) as u8
@@ -272,8 +277,10 @@ fn sign_of_byte(byte: u8) -> Option<bool>
 
 // The letters that a text spells, one a byte.
 fn read_letters(alloc: Global, text: &[u8]) -> Result<Option<Vec<Letter>>, Memory>
-    ensures some { IfOk result (λ found. IfSome found (λ v. text.now ≡ flat_map letter_text v.items)) }
-    ensures exact { IfOk result (λ found. (ls : List Letter) → text.now ≡ flat_map letter_text ls → IsSomeAnd found (λ v. v.items ≡ ls)) }
+    ensures some { IfOk result (λ found. IfSome found (λ v. text.now ≡
+        flat_map letter_text v.items)) }
+    ensures exact { IfOk result (λ found. (ls : List Letter) → text.now ≡ flat_map letter_text ls →
+        IsSomeAnd found (λ v. v.items ≡ ls)) }
 {
     let mut letters = Vec::with_capacity(alloc, text.len())?;
     for byte in text {
@@ -286,13 +293,16 @@ fn read_letters(alloc: Global, text: &[u8]) -> Result<Option<Vec<Letter>>, Memor
 }
 
 // As many words as so many qubits take, with I at each qubit.
-fn words_of_i(alloc: Global, qubits: u32) -> Result<SmallVec<Word, 1>, Memory>
+fn words_of_i(alloc: Global, qubits: u32) -> Result<Words, Memory>
     requires { qubits ≤ 1024 }
-    ensures holds { IfOk result (λ words. HoldsQubits qubits words.items) }
-    ensures letters { IfOk result (λ words. first_letters qubits words.items ≡ replicate qubits I) }
+    ensures holds { IfOk result (λ words. HoldsQubits qubits words.kept.items) }
+    ensures letters { IfOk result (λ words. first_letters qubits words.kept.items ≡
+        replicate qubits I) }
 {
     let count = qubits.div_ceil(64) as usize;
-    Ok(SmallVec::from_elem(alloc, Word::identity(), count)?)
+    Ok(Words {
+        kept: SmallVec::from_elem(alloc, Word::identity(), count)?,
+    })
 }
 
 // Puts the letters into words that are as many as they take.
@@ -323,7 +333,8 @@ fn pack(letters: &[Letter]) -> Word
 // Appends the text of the first letters of the words.
 fn print_words(words: &[Word], qubits: u32, into: &mut Vec<u8>)
     requires { vec_len into.old + qubits ≤ vec_capacity into.old }
-    ensures { into.new.items ≡ into.old.items ++ flat_map letter_text (first_letters qubits words.now) }
+    ensures { into.new.items ≡
+        into.old.items ++ flat_map letter_text (first_letters qubits words.now) }
 {
     let mut left = qubits;
     for word in words {
@@ -337,7 +348,8 @@ fn print_words(words: &[Word], qubits: u32, into: &mut Vec<u8>)
 fn print_letters(word: Word, count: u32, into: &mut Vec<u8>)
     requires few { count ≤ 64 }
     requires room { vec_len into.old + count ≤ vec_capacity into.old }
-    ensures text { into.new.items ≡ into.old.items ++ flat_map letter_text (take count (word_letters word)) }
+    ensures text { into.new.items ≡
+        into.old.items ++ flat_map letter_text (take count (word_letters word)) }
     ensures len { vec_len into.new ≡ vec_len into.old + count }
     ensures capacity { vec_capacity into.new ≡ vec_capacity into.old }
 {
@@ -360,7 +372,8 @@ fn first_support(words: &[Word], from: u32) -> Option<u32>
     requires { length words.now ≤ 16 }
     ensures found { IfSome result (λ q. slice_index_or (all_letters words.now) q I ≢ I) }
     ensures after { IfSome result (λ q. from ≤ q) }
-    ensures first { IfSome result (λ q. (k : ℕ) → from ≤ k → k < q → slice_index_or (all_letters words.now) k I ≡ I) }
+    ensures first { IfSome result (λ q. (k : ℕ) → from ≤ k → k < q →
+        slice_index_or (all_letters words.now) k I ≡ I) }
     ensures none { IfNone result (IsClearFrom from (all_letters words.now)) }
 {
     for i in (from / 64) as usize..words.len() {
@@ -389,7 +402,8 @@ fn clash_count(left: &[Word], right: &[Word]) -> u32
 fn multiply(left: &mut [Word], right: &[Word]) -> u32
     requires equal { length right.now ≡ length left.old }
     requires few { length left.old ≤ 16 }
-    ensures letters { all_letters left.new ≡ letters_product (all_letters left.old) (all_letters right.now) }
+    ensures letters { all_letters left.new ≡
+        letters_product (all_letters left.old) (all_letters right.now) }
     ensures power { result ≡ letters_phase (all_letters left.old) (all_letters right.now) }
     ensures small { result ≤ 192 * 16 }
 {

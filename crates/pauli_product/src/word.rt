@@ -59,7 +59,8 @@ impl Word {
 
     /// Multiplies letter by letter, and adds the powers of i.
     pub(crate) fn times(&mut self, other: Word) -> u32
-        ensures letters { word_letters self.new ≡ letters_product (word_letters self.old) (word_letters other) }
+        ensures letters { word_letters self.new ≡
+            letters_product (word_letters self.old) (word_letters other) }
         ensures power { result ≡ letters_phase (word_letters self.old) (word_letters other) }
         ensures few { result ≤ 192 }
     {
@@ -78,8 +79,10 @@ impl Word {
         ensures within { IfSome result (λ i. i < 64) }
         ensures found { IfSome result (λ i. slice_index_or (word_letters self) i I ≢ I) }
         ensures after { IfSome result (λ i. from ≤ i) }
-        ensures first { IfSome result (λ i. (k : ℕ) → from ≤ k → k < i → slice_index_or (word_letters self) k I ≡ I) }
-        ensures none { IfNone result ((k : ℕ) → from ≤ k → k < 64 → slice_index_or (word_letters self) k I ≡ I) }
+        ensures first { IfSome result (λ i. (k : ℕ) → from ≤ k → k < i →
+            slice_index_or (word_letters self) k I ≡ I) }
+        ensures none { IfNone result ((k : ℕ) → from ≤ k → k < 64 →
+            slice_index_or (word_letters self) k I ≡ I) }
     {
         if from == 64 {
             return None;

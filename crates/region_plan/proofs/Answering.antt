@@ -1,8 +1,8 @@
 -- Which ports and cells serve.
-use Rattle.std.proofs.Common.{◌≡◌, ◌≢◌, ◌↔◌, IfSome, not, IsTrue, ℕ, zero, suc, Bool, true, false, ◌+◌, ◌<◌, ◌≤◌, inl, inr, length, get_or, slice_get, List, Option, Some, None, is_some, [], ◌∷◌, ◌++◌, refl, sym, subst, arith, Contains, All, length-append}
+use Rattle.std.proofs.Common.{◌≡◌, ◌≢◌, ◌↔◌, not, IsTrue, ℕ, zero, suc, Bool, true, false, ◌+◌, ◌<◌, ◌≤◌, length, get_or, slice_get, List, Option, Some, None, is_some, [], ◌∷◌, ◌++◌, refl, sym, subst, arith, Contains, All, length-append}
 use Rattle.std.specs.List.Sorted.{IsPermutation}
 use Rattle.std.proofs.lemmas.Option.{slice_get_within, same_Some}
-use Rattle.std.proofs.lemmas.Bool.{cases_lt, false≢true}
+use Rattle.std.proofs.lemmas.Bool.{false≢true}
 use Rattle.std.proofs.lemmas.List.Elements.{All-cons, All-head, All-contains}
 use Rattle.std.proofs.lemmas.List.Sorted.{IsPermutation-trans}
 use Rattle.pauli_product.specs.declared.Letter.{Letter}
@@ -26,8 +26,7 @@ use Rattle.region_plan.specs.Finish.{Planning, Finished, Through, Found}
 use Rattle.region_plan.specs.Ports.{NoneOn, BestWay}
 use Rattle.region_plan.specs.declared.growth.Region.{Region}
 use Rattle.region_plan.specs.declared.ports.Way.{Way}
-use Rattle.patch_layout.proofs.Fits.{certified_fits}
-use Rattle.patch_layout.proofs.Certifying.{all_front}
+use Rattle.patch_layout.proofs.Laws.{law_certified_fits}
 use Rattle.region_plan.proofs.Regions.{region_one, grown_region, no_region, in_head}
 use Rattle.region_plan.proofs.Porting.{port_last}
 
@@ -187,7 +186,7 @@ lacks look false rotation test = (
 pub region_fits : (g : Grid) (look : Look) (p : Plan) → Sound g → IsRegion g look p → FitsFree g look p.port p.cells
 region_fits g look p sound r =
     let P : Signed → Type 0 = λ a. Fit g a p.port p.cells in
-    (subst P r.axis (certified_fits (case_of g look.rotation p) sound r.certified), r.free)
+    (subst P r.axis (law_certified_fits (case_of g look.rotation p) sound r.certified), r.free)
 
 head_kept : (sides more : List Side) (s : Side) → 0 < length sides → s ≡ get_or sides 0 s → s ≡ get_or (sides ++ more) 0 s
 head_kept [] more s some e = absurd (omega arith)

@@ -20,7 +20,8 @@ use Rattle.patch_layout.specs.Tree.{Tree, Named}
 use Rattle.patch_layout.proofs.Places.{same_entry, get_below, get_cases, get_set_here, get_set_other, Contains_from_get, get_from_Contains, get_map, get_mapped, get_added, get_kept}
 use Rattle.patch_layout.proofs.Looking.{one_place}
 use Rattle.patch_layout.proofs.Trees.{named_at}
-use Rattle.patch_layout.proofs.Neighbours.{neighbour_back}
+use Rattle.patch_layout.proofs.Laws.{law_neighbours}
+use Rattle.patch_layout.proofs.Asked.{side_count_is}
 use Rattle.patch_layout.proofs.Certifying.{fit_patched, fit_port, cells_fit}
 use Rattle.region_plan.specs.Tree.{cells_in, Rooted, TouchedTo}
 use Rattle.region_plan.specs.Free.{Free}
@@ -140,7 +141,7 @@ parents_fit g Free first tree cells places parents within rooted free distinct p
               cell-is = er-place;
               next = b.cell;
               next-is = ej;
-              adjacent = neighbour_back g b.cell r.cell (within b.cell b-free) (subst A b-is f.adjacent);
+              adjacent = law_neighbours g b.cell r.cell (within b.cell b-free) (subst A b-is f.adjacent);
             })
       ],
     )
@@ -166,7 +167,7 @@ sprung_certified g Free axis port first tree touched cells places parents touche
       (
         (
           (
-            record { some = fit.some; as_many_parents = sizes; as_many_touches = omega (arith, renumbered.0, s.as_many); patched = fit_patched g axis port cells fit },
+            record { some = fit.some; as_many_parents = sizes; as_many_touches = omega (arith, renumbered.0, s.as_many, side_count_is g axis (is_some port) port (fit_port g axis port cells fit)); patched = fit_patched g axis port cells fit },
             fit_port g axis port cells fit,
           ),
           cells_fit g cells fit.ancilla (up fit.distinct),

@@ -12,7 +12,7 @@ use Rattle.patch_layout.specs.Spread.{InQueue, Spread, NoneBelow, OneAt}
 use Rattle.patch_layout.specs.Joined.{Joining}
 use Rattle.patch_layout.proofs.Places.{same_entry, get_cases, get_added, get_from_Contains, Contains_from_get, get_map, get_mapped}
 use Rattle.patch_layout.proofs.Walking.{least_from, none_from}
-use Rattle.patch_layout.proofs.Neighbours.{neighbour_back}
+use Rattle.patch_layout.proofs.Laws.{law_neighbours}
 use Rattle.patch_layout.proofs.Fits.{leads_on}
 use Rattle.region_plan.specs.Free.{Free}
 use Rattle.region_plan.specs.Walk.{FreeOnes, Sought, MetAt}
@@ -27,7 +27,7 @@ pub turned : (g : Grid) (P S T : ℕ → Type 0) → ((x : ℕ) → P x → x < 
 turned g P S T within [] a p t s = (a, s, p, [], refl, t)
 turned g P S T within (c ∷ cs) a p t (adj, q, rest) =
     let (z, s, pz, es, len, back) = turned g P S (λ x. x ≡ c) within cs c q refl rest in
-    (z, s, pz, es ++ a ∷ [], omega (arith, length-append es (a ∷ [])), leads_on g P T es z c (a ∷ []) back (neighbour_back g a c (within a p) adj, p, t))
+    (z, s, pz, es ++ a ∷ [], omega (arith, length-append es (a ∷ [])), leads_on g P T es z c (a ∷ []) back (law_neighbours g a c (within a p) adj, p, t))
 
 pub free_within : (g : Grid) (held : List (Option ℕ)) (x : ℕ) → Free g held x → x < length g.sites
 free_within g held x free = slice_get_within g.sites x site.Ancilla free.0
@@ -132,7 +132,7 @@ grafting_more g held pair starts tree queue head seen now after at' y place next
           let S : Reached → Type 0 = λ x. at'.steps ≡ x.steps + 1 in
           let steps : at'.steps ≡ y.steps + 1 = subst S y-is f.steps in
           let free : Free g held y.cell = entry_free g held pair starts queue head seen ones s at'.from y is in
-          let back : Adjacent g at'.cell y.cell = neighbour_back g y.cell at'.cell (free_within g held y.cell free) adj in
+          let back : Adjacent g at'.cell y.cell = law_neighbours g y.cell at'.cell (free_within g held y.cell free) adj in
           let base-here : base ≡ t.here = same_entry now place base t.here base-is t.here-is in
           let B : Reached → Type 0 = λ x. x.cell ≡ at'.cell in
           let base-cell : base.cell ≡ at'.cell = subst B (sym base-here) t.here-cell in

@@ -9,6 +9,6 @@ pub mod OverSides
 pub mod Serving
 pub mod Finishing
 pub mod Answering
-pub mod TwoPorts
 pub mod Marking
 pub mod Porting
+pub mod Laws

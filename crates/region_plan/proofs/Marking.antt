@@ -1,7 +1,7 @@
 -- Marks by numbers.
-use Rattle.std.proofs.Common.{◌≡◌, ℕ, zero, suc, ◌<◌, ◌≤◌, ◌==◌, Bool, true, false, length, map, replicate, slice_set, List, [], ◌∷◌, refl, sym, subst, arith, All, rules}
+use Rattle.std.proofs.Common.{◌≡◌, ℕ, ◌<◌, ◌==◌, Bool, true, false, length, map, replicate, slice_set, List, [], ◌∷◌, refl, subst, arith, All, rules}
 use Rattle.std.proofs.lemmas.Bool.{ne_eqb}
-use Rattle.std.proofs.lemmas.List.{map-set, length-map}
+use Rattle.std.proofs.lemmas.List.{map-set}
 use Rattle.std.proofs.lemmas.List.Elements.{All-head, All-tail}
 
 -- no number is the latest one where that is above all

@@ -1,7 +1,7 @@
 -- Regions that go on to a port.
-use Rattle.std.proofs.Common.{◌≡◌, ◌↔◌, ℕ, Bool, true, false, ◌+◌, ◌<◌, ◌≤◌, ◌⊎◌, inl, inr, length, get_or, slice_get, List, Option, Some, None, [], ◌∷◌, ◌++◌, refl, sym, subst, arith, Contains, All, length-append}
+use Rattle.std.proofs.Common.{◌≡◌, ◌↔◌, ℕ, Bool, true, false, ◌+◌, ◌<◌, ◌≤◌, ◌⊎◌, inl, inr, length, slice_get, List, Option, Some, None, [], ◌∷◌, ◌++◌, refl, sym, subst, arith, Contains, All, length-append}
 use Rattle.std.proofs.lemmas.Option.{slice_get_within, same_Some, get_or_from_slice_get}
-use Rattle.std.proofs.lemmas.Bool.{cases_lt, false≢true}
+use Rattle.std.proofs.lemmas.Bool.{cases_lt}
 use Rattle.std.proofs.lemmas.List.Elements.{Contains-append_left, Contains-append_right}
 use Rattle.std.proofs.lemmas.List.Sorted.{All-permutation, Contains-permutation, IsPermutation-sym, IsPermutation-append_left}
 use Rattle.pauli_product.specs.Signed.{Signed}
@@ -17,8 +17,8 @@ use Rattle.patch_layout.proofs.Places.{get_kept, get_added, get_cases, get_from_
 use Rattle.region_plan.specs.Free.{Free, IsOffered}
 use Rattle.region_plan.specs.Growing.{CutOff}
 use Rattle.region_plan.specs.Tree.{cells_in, Rooted, Grafted}
-use Rattle.region_plan.specs.Ways.{Sprung, Served, At, HasTables}
-use Rattle.region_plan.specs.Ports.{Unreached, GoesOn, PortTried, NoneReached, PortJoined, CutFrom, NoneFrom, WayAt, NoneOn, BestWay}
+use Rattle.region_plan.specs.Ways.{Sprung, At, HasTables}
+use Rattle.region_plan.specs.Ports.{Unreached, GoesOn, PortTried, NoneReached, PortJoined, CutFrom, NoneFrom, WayAt, BestWay}
 use Rattle.region_plan.specs.declared.growth.Region.{Region}
 use Rattle.region_plan.specs.declared.ports.Way.{Way}
 use Rattle.region_plan.proofs.Least.{Distinct, adds_distinct}

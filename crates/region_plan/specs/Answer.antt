@@ -46,6 +46,10 @@ abbrev pub GrownFrom : Grid → (ℕ → Type 0) → List Side → ℕ → List 
 GrownFrom g Free [] first cells = ⊥
 GrownFrom g Free (s ∷ ss) first cells = Free first × OnSide g s first × Grown g Free (first ∷ []) ss cells
 
+-- the region starts as one free cell of the first side
+abbrev pub Joined : Grid → (ℕ → Type 0) → List Side → List ℕ → Type 0
+Joined g Free sides cells = (first : ℕ) × GrownFrom g Free sides first cells
+
 -- and nothing grows from a lesser cell
 abbrev pub GrownFromLeast : Grid → (ℕ → Type 0) → List Side → List ℕ → Type 0
 GrownFromLeast g Free sides cells =

@@ -6,3 +6,4 @@ pub mod Tree
 pub mod Ways
 pub mod Finish
 pub mod Ports
+pub mod Laws

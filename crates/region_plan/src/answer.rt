@@ -1,13 +1,11 @@
 //! The planner.
 
 ghost use Rattle.std.specs.Prelude.{◌≡◌, ℕ, Option, List, length};
-ghost use Rattle.patch_layout.specs.Grid.{Grid, Sound};
-ghost use Rattle.patch_layout.specs.Region.{wanted_sides};
-ghost use Rattle.patch_layout.specs.Joined.{Joined};
+ghost use Rattle.patch_layout.specs.Grid.{Grid};
 ghost use Rattle.patch_layout.specs.declared.look.Look.{Look as LookValue};
-ghost use Rattle.patch_layout.specs.declared.plan.Plan.{Plan as PlanValue};
-ghost use Rattle.region_plan.specs.Free.{Free, FitsFree, HasLetter};
-ghost use Rattle.region_plan.specs.Answer.{Answers, IsRegion, LeastJoined};
+ghost use Rattle.region_plan.specs.Free.{HasLetter};
+ghost use Rattle.region_plan.specs.Answer.{Answers, LeastJoined};
+ghost use Rattle.region_plan.specs.Laws.{LeastJoinedIsJoined, RegionsFit};
 
 use crate::free::{is_patch_held, lacks_state};
 use crate::ways::way;
@@ -27,7 +25,7 @@ pub enum Planned {
     NoReady,
     /// A patch of the axis is held, or no region fits in the free cells.
     Blocked,
-    /// Want of memory.
+    /// Out of memory.
     Memory,
 }
 
@@ -63,7 +61,7 @@ pub trait Planner {
     /// What the port and the cells of each region meet, by the layout and the look.
     ghost meets: { Grid → LookValue → Option ℕ → List ℕ → Type 0 };
 
-    /// Plans a region for a look, or says why there is none.
+    // Plans a region for a look, or says why there is none.
     fn plan(&mut self, alloc: Global, layout: &Layout, look: &Look) -> Planned
         requires held { length look.now.held ≡ length layout.now.sites }
         requires letter { (q : ℕ) × HasLetter look.now.axis q }
@@ -84,10 +82,10 @@ impl Planner for JoiningPlanner {
 
 /// A region that grows from the least cell that serves is joined side by side.
 pub fn law_joined()
-    ensures { (g : Grid) (look : LookValue) (port : Option ℕ) (cells : List ℕ) → LeastJoined g look port cells → Joined g (Free g look.held) (wanted_sides look.axis port) cells }
+    ensures { LeastJoinedIsJoined }
 {}
 
 /// The cells of each region are free and fit, so where a planner answers one it isn't blocked.
 pub fn law_region_fits()
-    ensures { (g : Grid) (look : LookValue) (p : PlanValue) → Sound g → IsRegion g look p → FitsFree g look p.port p.cells }
+    ensures { RegionsFit }
 {}

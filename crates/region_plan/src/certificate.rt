@@ -14,7 +14,7 @@ use patch_base::Memory;
 use patch_layout::{CellList, Layout, Look, Parent, ParentList, Plan, Reached, TouchList};
 use std::alloc::Global;
 
-/// The cells of the region in ascending order.
+// The cells of the region in ascending order.
 fn in_order(alloc: Global, tree: &[Reached]) -> Result<Vec<u32>, Memory>
     ensures same { IfOk result (λ cells. IsPermutation (cells_in tree.now) cells.items) }
     ensures ascending { IfOk result (λ cells. AllPairs (λ a b. a ≢ b) cells.items → Ascending cells.items) }
@@ -24,7 +24,7 @@ fn in_order(alloc: Global, tree: &[Reached]) -> Result<Vec<u32>, Memory>
     Ok(cells)
 }
 
-/// The place of each cell, where there are so many cells on the grid; 0 for a cell that isn't in the list.
+// The place of each cell, where there are so many cells on the grid; 0 for a cell that isn't in the list.
 fn places_of(alloc: Global, size: u32, cells: &[u32]) -> Result<Vec<u32>, Memory>
     requires cells { All (λ c. c < size) cells.now }
     requires distinct { AllPairs (λ a b. a ≢ b) cells.now }
@@ -39,7 +39,7 @@ fn places_of(alloc: Global, size: u32, cells: &[u32]) -> Result<Vec<u32>, Memory
     Ok(places)
 }
 
-/// The parent of each cell: the place of the one that it was joined to, and its steps.
+// The parent of each cell: the place of the one that it was joined to, and its steps.
 fn parents_of(
     alloc: Global,
     cells: &[u32],
@@ -64,7 +64,7 @@ fn parents_of(
     Ok(parents)
 }
 
-/// The places of the cells that touch the sides.
+// The places of the cells that touch the sides.
 fn touches_of(
     alloc: Global,
     tree: &[Reached],

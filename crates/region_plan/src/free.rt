@@ -14,7 +14,7 @@ pub(crate) fn is_free(layout: &Layout, held: &[Option<u32>], cell: u32) -> bool
     layout.is_ancilla(cell) && is_unheld(held, cell)
 }
 
-/// Whether there is such a cell and no product holds it.
+// Whether there is such a cell and no product holds it.
 fn is_unheld(held: &[Option<u32>], cell: u32) -> bool
     ensures { IsTrue result ↔ IsUnheld held.now cell }
 {
@@ -44,7 +44,7 @@ pub(crate) fn ready_of(look: &Look) -> &[u32]
     &look.ready
 }
 
-/// Whether a factory has a ready state.
+// Whether a factory has a ready state.
 fn has_state(look: &Look) -> bool
     ensures { IsTrue result ↔ ((f : ℕ) × HasState look.now f) }
 {
@@ -58,7 +58,7 @@ pub(crate) fn lacks_state(look: &Look) -> bool
     look.rotation && !has_state(look)
 }
 
-/// Whether a count isn't 0.
+// Whether a count isn't 0.
 fn is_any_ready(counts: &[u32]) -> bool
     ensures { IsTrue result ↔ ((f : ℕ) × IsReady counts.now f) }
 {
@@ -70,7 +70,7 @@ fn is_any_ready(counts: &[u32]) -> bool
     false
 }
 
-/// Whether there is such a count and it isn't 0.
+// Whether there is such a count and it isn't 0.
 fn is_ready(counts: &[u32], factory: u32) -> bool
     ensures { IsTrue result ↔ IsReady counts.now factory }
 {
@@ -87,7 +87,7 @@ pub(crate) fn is_offered(layout: &Layout, look: &Look, factory: u32) -> bool
     is_ready(ready_of(look), factory) && is_port_unheld(layout, look.held.as_slice(), factory)
 }
 
-/// Whether the factory has a port, and no product holds it.
+// Whether the factory has a port, and no product holds it.
 fn is_port_unheld(layout: &Layout, held: &[Option<u32>], factory: u32) -> bool
     ensures { IsTrue result ↔ ((c : ℕ) × IsPort layout.now factory c × IsUnheld held.now c) }
 {
@@ -109,7 +109,7 @@ pub(crate) fn is_patch_held(layout: &Layout, look: &Look) -> bool
     false
 }
 
-/// Whether the qubit has a letter and a product holds its patch.
+// Whether the qubit has a letter and a product holds its patch.
 fn is_held_at(layout: &Layout, look: &Look, qubit: u32) -> bool
     requires { qubit < length look.now.axis.letters }
     ensures { IsTrue result ↔ IsHeldAt layout.now look.now qubit }
@@ -120,7 +120,7 @@ fn is_held_at(layout: &Layout, look: &Look, qubit: u32) -> bool
     }
 }
 
-/// Whether the qubit has a patch that a product holds.
+// Whether the qubit has a patch that a product holds.
 fn is_patched_held(layout: &Layout, held: &[Option<u32>], qubit: u32) -> bool
     ensures { IsTrue result ↔ ((c : ℕ) × (by : ℕ) × IsPatch layout.now qubit c × (slice_get held.now c ≡ Some (Some by))) }
 {
@@ -130,7 +130,7 @@ fn is_patched_held(layout: &Layout, held: &[Option<u32>], qubit: u32) -> bool
     }
 }
 
-/// Whether a product holds the cell.
+// Whether a product holds the cell.
 fn is_held(held: &[Option<u32>], cell: u32) -> bool
     ensures { IsTrue result ↔ ((by : ℕ) × (slice_get held.now cell ≡ Some (Some by))) }
 {

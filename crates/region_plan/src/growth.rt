@@ -54,7 +54,7 @@ pub(crate) fn join(
     Ok(Some(place))
 }
 
-/// Joins the region to each of the sides in turn, each time by the least number of free cells, and tells whether all could be joined.
+// Joins the region to each of the sides in turn, each time by the least number of free cells, and tells whether all could be joined.
 fn grow(
     layout: &Layout,
     held: &[Option<u32>],
@@ -83,7 +83,7 @@ fn grow(
     Ok(true)
 }
 
-/// The region that grows from a free cell over the sides.
+// The region that grows from a free cell over the sides.
 fn sprout(
     alloc: Global,
     layout: &Layout,

@@ -7,8 +7,6 @@ mod free;
 mod growth;
 mod marks;
 mod ports;
-#[cfg(test)]
-mod tests;
 mod tree;
 mod walk;
 mod ways;

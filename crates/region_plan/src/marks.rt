@@ -59,7 +59,7 @@ impl Marks {
     }
 }
 
-/// A number above all in the list, which starts anew where there is no greater one.
+// A number above all in the list, which starts anew where there is no greater one.
 fn next_number(numbers: &mut Vec<u32>, latest: u32) -> u32
     requires { All (λ n. n ≤ latest) numbers.old.items }
     ensures above { All (λ n. n < result) numbers.new.items }

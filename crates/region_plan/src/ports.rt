@@ -20,7 +20,7 @@ pub(crate) struct Way {
     pub(crate) factory: u32,
 }
 
-/// Joins the region to the factory's port, where that is offered and free cells lead there.
+// Joins the region to the factory's port, where that is offered and free cells lead there.
 fn join_port(
     layout: &Layout,
     look: &Look,
@@ -51,7 +51,7 @@ fn join_port(
     }
 }
 
-/// Joins the region to the least offered port below this factory number to which free cells lead.
+// Joins the region to the least offered port below this factory number to which free cells lead.
 fn join_least_port(
     layout: &Layout,
     look: &Look,
@@ -70,7 +70,7 @@ fn join_least_port(
     Ok(None)
 }
 
-/// Whether a port below this factory number is offered.
+// Whether a port below this factory number is offered.
 fn is_any_offered(layout: &Layout, look: &Look, below: u32) -> bool
     ensures { result ≡ false → (f : ℕ) → f < below → IsOffered layout.now look.now f → ⊥ }
 {
@@ -82,7 +82,7 @@ fn is_any_offered(layout: &Layout, look: &Look, below: u32) -> bool
     false
 }
 
-/// The region that grows from this cell over the sides of the patches, and then through the least offered port below this factory number that it reaches.
+// The region that grows from this cell over the sides of the patches, and then through the least offered port below this factory number that it reaches.
 fn way_at(
     alloc: Global,
     layout: &Layout,

@@ -75,7 +75,7 @@ impl Tree {
     }
 }
 
-/// What a table has at a number, and None past its end.
+// What a table has at a number, and None past its end.
 fn entry(table: &[Option<u32>], at: u32) -> Option<u32>
     ensures { (c : ℕ) → (result ≡ Some c) ↔ (slice_get table.now at ≡ Some (Some c)) }
 {

@@ -17,7 +17,7 @@ pub(crate) struct Met {
     pub(crate) place: u32,
 }
 
-/// Puts a free cell into the queue that isn't marked yet, and marks it.
+// Puts a free cell into the queue that isn't marked yet, and marks it.
 fn reach(
     layout: &Layout,
     held: &[Option<u32>],
@@ -36,7 +36,7 @@ fn reach(
     Ok(())
 }
 
-/// Starts a walk at the free cells of the pair.
+// Starts a walk at the free cells of the pair.
 fn begin(
     layout: &Layout,
     held: &[Option<u32>],

@@ -11,7 +11,7 @@ use patch_base::Memory;
 use patch_layout::{Layout, Look, Plan, wanted};
 use std::alloc::Global;
 
-/// The plan for a measurement, where there is one.
+// The plan for a measurement, where there is one.
 fn for_measurement(alloc: Global, layout: &Layout, look: &Look) -> Result<Option<Plan>, Memory>
     requires { (q : ℕ) × HasLetter look.now.axis q }
     ensures { IfOk result (Through layout.now look.now None) }
@@ -26,7 +26,7 @@ fn for_measurement(alloc: Global, layout: &Layout, look: &Look) -> Result<Option
     }
 }
 
-/// The plan for a rotation, where there is one.
+// The plan for a rotation, where there is one.
 fn for_rotation(alloc: Global, layout: &Layout, look: &Look) -> Result<Option<Plan>, Memory>
     requires rotation { look.now.rotation ≡ true }
     requires letter { (q : ℕ) × HasLetter look.now.axis q }

@@ -7,3 +7,5 @@ pub mod Lined
 pub mod Hearing
 pub mod LastWritten
 pub mod OneRun
+pub mod Laws
+pub mod Standing

@@ -30,7 +30,7 @@ starts_of : (v : Version) (n : Noted) → Nameable v n → Starts v (line_words 
 starts_of one n named = (named, refl)
 starts_of two n named = (named, refl)
 
--- an entry line's words begin with its pass, and go on with its entry
+-- an entry line's words begin with its worker, and go on with its entry
 pub line_starts : (v : Version) (line : List ℕ) (all : List (List ℕ)) (n : Noted) → all ≡ words line → IsEntryLine v line n → Starts v all n.by (entry_words n.entry)
 line_starts v line all n split is =
     let P : List (List ℕ) → Type 0 = λ ws. Starts v ws n.by (entry_words n.entry) in
@@ -40,7 +40,7 @@ starts_one : (v : Version) (all : List (List ℕ)) (a b : ℕ) (r s : List (List
 starts_one one all a b r s (low, f) (small, g) = sym f ∙ g
 starts_one two all a b r s (low, f) (small, g) = ap (drop 1) (sym f ∙ g)
 
--- what stands behind an entry line's pass are the words of its entry
+-- what stands after an entry line's worker are the words of its entry
 pub line_goes_on : (v : Version) (line : List ℕ) (all : List (List ℕ)) (n : Noted) (by : ℕ) (rest : List (List ℕ)) → all ≡ words line → Starts v all by rest → IsEntryLine v line n → IsWorded v rest n.entry
 line_goes_on v line all n by rest split starts is = record {
   numbers = is.prints.1;
@@ -56,7 +56,7 @@ words_are : (v : Version) (all rest : List (List ℕ)) (by : ℕ) (e : Entry) �
 words_are one all rest by e (low, f) g = f ∙ g
 words_are two all rest by e (low, f) g = f ∙ ap (λ t. decimal by ∷ t) g
 
--- a line whose words are those of a pass and an entry is their line
+-- a line whose words are those of a worker and an entry is their line
 pub line_of_words : (v : Version) (line : List ℕ) (all : List (List ℕ)) (by : ℕ) (rest : List (List ℕ)) (e : Entry) → all ≡ words line → Starts v all by rest → IsWorded v rest e → IsEntryLine v line (noted by e)
 line_of_words v line all by rest e split starts is = record {
   prints = (nameable_of v all rest by e starts, is.numbers);

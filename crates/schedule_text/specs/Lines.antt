@@ -36,6 +36,10 @@ IsShaped v (Step f) = Unit {0}
 IsShaped one (Settle p flip) = ⊥
 IsShaped two (Settle p flip) = Unit {0}
 
+-- an entry that a text of the version may have
+abbrev pub StandsIn : Version → Noted → Type 0
+StandsIn v n = Prints v n × IsShaped v n.entry
+
 -- the line is an entry line of the version, and this is its entry
 pub record IsEntryLine (v : Version) (line : List ℕ) (n : Noted) : Type 0 where
   pub prints : Prints v n
@@ -62,7 +66,7 @@ IsEntryOf words e = (v : Version) → IsWorded v words e
 abbrev pub IsNoEntry : List (List ℕ) → Type 0
 IsNoEntry words = (v : Version) (e : Entry) → IsWorded v words e → ⊥
 
--- a line's words begin with the number of the pass in version 2, and the number is 0 in version 1
+-- a line's words begin with the number of the worker in version 2, and the number is 0 in version 1
 abbrev pub Starts : Version → List (List ℕ) → ℕ → List (List ℕ) → Type 0
 Starts one words by rest = (by ≡ 0) × (words ≡ rest)
 Starts two words by rest = (by ≤ 63) × (words ≡ decimal by ∷ rest)

@@ -14,7 +14,7 @@ pub record Passes (was now : Option (List ℕ)) (held holds bytes : List ℕ) : 
   pub grew : Grew was now sent
   pub whole : held ++ bytes ≡ sent ++ holds
 
--- words, each behind a space
+-- words, each after a space
 abbrev pub spread : List (List ℕ) → List ℕ
 spread words = flat_map (λ w. 32 ∷ w) words
 
@@ -26,7 +26,7 @@ head_words (Release p) = entry_words (Release p)
 head_words (Step f) = entry_words (Step f)
 head_words (Settle p flip) = entry_words (Settle p flip)
 
--- a cell behind a space
+-- a cell after a space
 abbrev pub cell_word : ℕ → List ℕ
 cell_word cell = 32 ∷ decimal cell
 

@@ -26,7 +26,7 @@ entry_words (Release p) = codes "R" ∷ decimal p ∷ []
 entry_words (Step f) = codes "S" ∷ decimal f ∷ []
 entry_words (Settle p flip) = codes "T" ∷ decimal p ∷ digit flip ∷ []
 
--- the two versions of the text: the second names the pass of each entry
+-- the two versions of the text: the second names the worker of each entry
 pub data Version : Type 0 where
   one : Version
   two : Version
@@ -39,7 +39,7 @@ abbrev pub entry_line : Version → Noted → List ℕ
 entry_line one n = spaced (entry_words n.entry)
 entry_line two n = spaced (decimal n.by ∷ entry_words n.entry)
 
--- the number of the pass that made the entry is one that a text may have
+-- the number of the worker that made the entry is one that a text may have
 abbrev pub HasNumber : Noted → Type 0
 HasNumber n = n.by ≤ 63
 

@@ -87,7 +87,7 @@ impl Said {
         Ok(said)
     }
 
-    /// Whether the effective outcome of a product is -1.
+    // Whether the effective outcome of a product is -1.
     fn outcome(&self, p: usize) -> bool
         requires signs { p < length self.now.signs.items }
         requires raws { p < length self.now.raws.items }

@@ -14,19 +14,18 @@ ghost use Rattle.board_core.specs.Position.{past};
 ghost use Rattle.schedule_text.specs.Bits.{LeavesBits};
 ghost use Rattle.schedule_text.specs.Lines.{IsEntryLine, version_of};
 ghost use Rattle.schedule_text.specs.Text.{text_of, bits_text, two, bit_in, TextTellsAll};
+ghost use Rattle.schedule_text.specs.Laws.{OneSchedule, LegalEntriesStand};
 
 mod bits;
 mod pen;
 mod read;
-#[cfg(test)]
-mod tests;
 
 use bits::{Said, count};
-use board_core::{Board, Noted, law_headline};
+use board_core::{Board, Noted, law_headline, law_short};
 use node_log::Log;
 use patch_base::{Failed, Memory, Sink, Words};
 use pen::Pen;
-use read::{entry, pass};
+use read::{entry, worker};
 use source_model::{Circuit, Static, law_bits};
 use std::alloc::Global;
 
@@ -75,12 +74,12 @@ pub fn write_bits<O: Sink>(circuit: &Circuit, bits: &[bool], out: &mut O) -> Res
     pen.send(out)
 }
 
-/// The bits of the registers behind a history of the circuit's static products, in order: each is the effective outcome of
+/// The bits of the registers after a history of the circuit's static products, in order: each is the effective outcome of
 /// the last product that measures into it, in source order, and 0 where there is none.
 ///
 /// # Errors
 ///
-/// `Memory` where memory is wanting.
+/// `Memory` where memory ran out.
 pub fn history_bits(
     alloc: Global,
     circuit: &Circuit,
@@ -100,12 +99,12 @@ pub fn history_bits(
     Ok(bits)
 }
 
-/// The bits of the registers behind a board of the circuit's static products: where the board is complete for a table of
+/// The bits of the registers after a board of the circuit's static products: where the board is complete for a table of
 /// outcomes, those of the circuit's own run with that table.
 ///
 /// # Errors
 ///
-/// `Memory` where memory is wanting.
+/// `Memory` where memory ran out.
 pub fn bits_of(alloc: Global, circuit: &Circuit, board: &Board) -> Result<Vec<bool>, Memory>
     requires circuit { WellFormed circuit.now }
     requires products { board.now.job.products ≡ statics circuit.now.items }
@@ -139,19 +138,19 @@ pub fn write_schedule<O: Sink>(
     write_history(circuit, board.history(), bits, out)
 }
 
-/// The entry that a line of a schedule names, with the number of the pass that made it, which is 0 in version 1.
+/// The entry that a line of a schedule names, with the number of the worker that made it, which is 0 in version 1.
 /// `version` is 1 or 2. None where the line is no entry line of that version.
 ///
 /// # Errors
 ///
-/// `Memory` where the axis or the cells of a claim found none.
+/// `Memory` where there was none for the axis or the cells of a claim.
 pub fn read_entry(alloc: Global, line: &[u8], version: u32) -> Result<Option<Noted>, Memory>
     requires { (version ≡ 1) ⊎ (version ≡ 2) }
     ensures found { IfOk result (λ f. IfSome f (IsEntryLine (version_of version) line.now)) }
     ensures exact { IfOk result (λ f. (n : Noted) → IsEntryLine (version_of version) line.now n → f ≡ Some n) }
 {
     let mut words = Words::of(line);
-    let Some(by) = pass(&mut words, version) else {
+    let Some(by) = worker(&mut words, version) else {
         return Ok(None);
     };
     let Some(entry) = entry(alloc, &mut words, version)? else {
@@ -164,3 +163,15 @@ pub fn read_entry(alloc: Global, line: &[u8], version: u32) -> Result<Option<Not
 pub fn law_text_tells_all()
     ensures { TextTellsAll }
 {}
+
+/// A text is the schedule of one history alone.
+pub fn law_one_schedule()
+    ensures { OneSchedule }
+{}
+
+/// Each entry of a legal history may stand in a schedule's text, where its worker has a number of 0 to 63.
+pub fn law_legal_entries_stand()
+    ensures { LegalEntriesStand }
+{
+    law_short();
+}

@@ -152,7 +152,7 @@ impl Pen {
         }
     }
 
-    /// The words of an entry but for a claim's cells.
+    // The words of an entry but for a claim's cells.
     fn words(&mut self, entry: &Entry)
         requires { length self.old + 1100 ≤ 8192 }
         ensures text { self.new ≡ self.old ++ spread (head_words entry.now) }
@@ -206,7 +206,7 @@ impl Pen {
         Ok(())
     }
 
-    /// Leaves room for 4,096 bytes or more.
+    // Leaves room for 4,096 bytes or more.
     fn make_room<O: Sink>(&mut self, out: &mut O) -> Result<(), Failed>
         ensures counts { O.faults out.old ≤ O.faults out.new }
         ensures ok { OnOk result (Passes (O.taken out.old) (O.taken out.new) self.old self.new []) }
@@ -220,7 +220,7 @@ impl Pen {
         Ok(())
     }
 
-    /// Bytes of any number.
+    // Bytes of any number.
     fn put_all<O: Sink>(&mut self, bytes: &[u8], out: &mut O) -> Result<(), Failed>
         ensures counts { O.faults out.old ≤ O.faults out.new }
         ensures ok { OnOk result (Passes (O.taken out.old) (O.taken out.new) self.old self.new bytes.now) }
@@ -263,7 +263,7 @@ impl Pen {
         Ok(())
     }
 
-    /// A claim's cells; other entries have none.
+    // A claim's cells; other entries have none.
     fn cells_of<O: Sink>(&mut self, entry: &Entry, out: &mut O) -> Result<(), Failed>
         requires { length self.old ≤ 8000 }
         ensures counts { O.faults out.old ≤ O.faults out.new }
@@ -278,7 +278,7 @@ impl Pen {
         }
     }
 
-    /// An entry's line.
+    // An entry's line.
     fn entry<O: Sink>(&mut self, noted: &Noted, out: &mut O) -> Result<(), Failed>
         ensures counts { O.faults out.old ≤ O.faults out.new }
         ensures ok { OnOk result (Passes (O.taken out.old) (O.taken out.new) self.old self.new (entry_text noted.now)) }
@@ -305,7 +305,7 @@ impl Pen {
         Ok(())
     }
 
-    /// The digits of `size` bits from `first` on, the highest index first.
+    // The digits of `size` bits from `first` on, the highest index first.
     fn digits<O: Sink>(
         &mut self,
         first: usize,
@@ -337,7 +337,7 @@ impl Pen {
         self.put_all(name.bytes(), out)
     }
 
-    /// A register's line of bits.
+    // A register's line of bits.
     fn register<O: Sink>(
         &mut self,
         register: &Register,

@@ -190,7 +190,7 @@ fn next_letter(words: &mut Words<'_>) -> Option<u8>
     }
 }
 
-/// The entry that the words of a line name, behind the number of its pass.
+/// The entry that the words of a line name, after the number of its worker.
 pub(crate) fn entry(
     alloc: Global,
     words: &mut Words<'_>,
@@ -212,8 +212,8 @@ pub(crate) fn entry(
     }
 }
 
-/// The number of the entry's pass: 0 in version 1, and the first word in version 2.
-pub(crate) fn pass(words: &mut Words<'_>, version: u32) -> Option<u32>
+/// The number of the entry's worker: 0 in version 1, and the first word in version 2.
+pub(crate) fn worker(words: &mut Words<'_>, version: u32) -> Option<u32>
     ensures found { IfSome result (λ by. Starts (version_of version) words.old by words.new) }
     ensures other { IfNone result ((by : ℕ) (rest : List (List ℕ)) → Starts (version_of version) words.old by rest → ⊥) }
 {

@@ -1,34 +1,11 @@
 -- The laws of orders of products, each over products on n qubits.
-use Rattle.std.specs.Prelude.{◌≡◌, ℕ, true, Bool, List, [], ◌∷◌, ◌++◌, length, Some, slice_get}
-use Rattle.pauli_product.specs.Signed.{Signed, OfLength, commute}
-use Rattle.pauli_product.specs.Pulls.{Angle, Turn, turn, TurnsOfLength, conj, pull}
-use Rattle.trace_laws.specs.Steps.{Step, StepsOfLength, axes_commute, commuting, pass}
-use Rattle.trace_laws.specs.Runs.{begun, flips, after, run, run_with, source_flip, source_axis}
-use Rattle.trace_laws.specs.Orders.{upto, stands, SwapEqual, Waiting, NoneReversed, OrderOfAll}
-
--- two products commute exactly where their conjugates do
-abbrev pub CommutingIsKept : Type 0
-CommutingIsKept = (n : ℕ) (q : Signed) (a : Angle) (p r : Signed) →
-    OfLength n q → OfLength n p → OfLength n r →
-    commute (conj q a p) (conj q a r) ≡ commute p r
-
--- a conjugation acts on the axis and on the product of a conjugation
-abbrev pub ConjugationCarries : Type 0
-ConjugationCarries = (n : ℕ) (q : Signed) (a : Angle) (r : Signed) (b : Angle) (p : Signed) →
-    OfLength n q → OfLength n r → OfLength n p →
-    conj q a (conj r b p) ≡ conj (conj q a r) b (conj q a p)
-
--- conjugations about axes that commute change places
-abbrev pub ConjugationsExchange : Type 0
-ConjugationsExchange = (n : ℕ) (q : Signed) (a : Angle) (r : Signed) (b : Angle) (p : Signed) →
-    OfLength n q → OfLength n r → OfLength n p → commute q r ≡ true →
-    conj q a (conj r b p) ≡ conj r b (conj q a p)
-
--- a turn in the middle of a list acts last, about its axis pulled through those before it
-abbrev pub TurnActsLast : Type 0
-TurnActsLast = (n : ℕ) (before later : List Turn) (q : Signed) (a : Angle) (p : Signed) →
-    TurnsOfLength n before → TurnsOfLength n later → OfLength n q → OfLength n p →
-    pull (before ++ turn q a ∷ later) p ≡ conj (pull before q) a (pull (before ++ later) p)
+use Rattle.std.specs.Prelude.{◌≡◌, ℕ, ◌+◌, ◌<◌, ◌≤◌, true, false, Bool, ◌||◌, List, [], ◌∷◌, ◌++◌, length, map, Some, slice_get}
+use Rattle.pauli_product.specs.Signed.{Signed}
+use Rattle.pauli_product.specs.Pulls.{pull}
+use Rattle.pauli_product.specs.Bits.{number_of}
+use Rattle.trace_laws.specs.Steps.{Step, StepsOfLength, axes_commute, commuting, pass, writes, bare}
+use Rattle.trace_laws.specs.Runs.{begun, axis_of, axis_now, bit_below, flips, after, plain, run, run_with, source_flip, source_axis}
+use Rattle.trace_laws.specs.Orders.{upto, stands, others, Exchanged, SwapEqual, Waiting, Next, NoneReversed, OrderOfAll}
 
 -- neighbours whose static axes commute change places, and no product's axis changes, whatever flips
 abbrev pub NeighboursKeepAxes : Type 0
@@ -65,3 +42,79 @@ abbrev pub BitsGiveAxes : Type 0
 BitsGiveAxes = (n : ℕ) (steps : List Step) (w : List ℕ) (p : ℕ) →
     StepsOfLength n steps → Waiting (pass commuting steps) (length steps) [] w →
     run steps w p ≡ run_with steps (source_flip steps) w p
+
+-- a product that waits on none may be the next of an order in which each one waits
+abbrev pub NextWaits : Type 0
+NextWaits = (steps : List Step) (u : List ℕ) (p : ℕ) →
+    Waiting (pass commuting steps) (length steps) [] u → Next steps u p →
+    Waiting (pass commuting steps) (length steps) [] (u ++ p ∷ [])
+
+-- the axis that it has now is that of a gate at a time
+abbrev pub NextHasSourceAxis : Type 0
+NextHasSourceAxis = (n : ℕ) (steps : List Step) (u : List ℕ) (p : ℕ) (s : Step) →
+    StepsOfLength n steps → Waiting (pass commuting steps) (length steps) [] u → Next steps u p →
+    slice_get steps p ≡ Some s →
+    source_axis steps p ≡ Some (axis_now (after (flips steps) steps begun u) s)
+
+-- two tables of the same products that agree on the outcomes along an order
+abbrev pub KnownAlong : List Step → List Step → List ℕ → Type 0
+KnownAlong steps steps' u =
+    (map bare steps ≡ map bare steps')
+    × ((q : ℕ) → stands q u ≡ true → slice_get steps q ≡ slice_get steps' q)
+
+-- the source axis of a product that may be next doesn't depend on outcomes that aren't known
+abbrev pub KnownAxis : Type 0
+KnownAxis = (n : ℕ) (steps steps' : List Step) (u : List ℕ) (p : ℕ) (s s' : Step) →
+    StepsOfLength n steps → StepsOfLength n steps' → KnownAlong steps steps' u →
+    Waiting (pass commuting steps) (length steps) [] u → Next steps u p →
+    slice_get steps p ≡ Some s → slice_get steps' p ≡ Some s' →
+    source_axis steps p ≡ source_axis steps' p
+
+-- nor does whether it flips
+abbrev pub KnownFlip : Type 0
+KnownFlip = (n : ℕ) (steps steps' : List Step) (u : List ℕ) (p : ℕ) (s : Step) →
+    StepsOfLength n steps → StepsOfLength n steps' → KnownAlong steps steps' u →
+    Waiting (pass commuting steps) (length steps) [] u → Next steps u p →
+    slice_get steps p ≡ Some s → slice_get steps' p ≡ Some s →
+    source_flip steps p ≡ source_flip steps' p
+
+-- what stands in an order in which each one waits has all that it waits for there, or in the front
+abbrev pub WaitingIsClosed : Type 0
+WaitingIsClosed = (may : ℕ → ℕ → Bool) (n : ℕ) (front w : List ℕ) (k i : ℕ) →
+    Waiting may n front w → stands k w ≡ true → i < k → may i k ≡ false →
+    (stands i w || stands i front) ≡ true
+
+-- it is one of the products
+abbrev pub WaitingIsWithin : Type 0
+WaitingIsWithin = (may : ℕ → ℕ → Bool) (n : ℕ) (front w : List ℕ) (q : ℕ) →
+    Waiting may n front w → stands q w ≡ true → q < n
+
+-- one more product that waits on none may follow
+abbrev pub WaitingGrows : Type 0
+WaitingGrows = (may : ℕ → ℕ → Bool) (n : ℕ) (front w : List ℕ) (p : ℕ) →
+    Waiting may n front w → p < n → stands p front ≡ false → stands p w ≡ false →
+    ((q : ℕ) → q < p → may q p ≡ false → (stands q w || stands q front) ≡ true) →
+    Waiting may n front (w ++ p ∷ [])
+
+-- with the other products after it, ascending, it comes by exchanges of neighbours that may change places
+abbrev pub WaitingIsExchanged : Type 0
+WaitingIsExchanged = (may : ℕ → ℕ → Bool) (n : ℕ) (w : List ℕ) →
+    Waiting may n [] w → Exchanged may (upto n) (w ++ others n w)
+
+-- the source axis of a product: its static axis pulled through the turns of a gate at a time
+abbrev pub SourceAxisIsPulled : Type 0
+SourceAxisIsPulled = (steps : List Step) (p : ℕ) (s : Step) → slice_get steps p ≡ Some s →
+    source_axis steps p ≡ Some (pull (plain steps p).turns s.axis)
+
+-- bits agree where the axes of the products that write them do
+abbrev pub BitsAgree : Type 0
+BitsAgree = (steps : List Step) (done done' : List (ℕ × Signed)) (p b : ℕ) →
+    ((q : ℕ) (s : Step) → q < p → slice_get steps q ≡ Some s → writes s.act b ≡ true →
+      axis_of done q ≡ axis_of done' q) →
+    bit_below steps done p b ≡ bit_below steps done' p b
+
+-- numbers agree where their bits do
+abbrev pub NumbersAgree : Type 0
+NumbersAgree = (f g : ℕ → Bool) (first size : ℕ) →
+    ((b : ℕ) → first ≤ b → b < first + size → f b ≡ g b) →
+    number_of f first size ≡ number_of g first size

@@ -32,12 +32,12 @@ pub record Ready (may : ℕ → ℕ → Bool) (n : ℕ) (front : List ℕ) (p : 
   pub once : stands p front ≡ false
   pub waited : (q : ℕ) → q < p → may q p ≡ false → stands q front ≡ true
 
--- distinct products behind a front, each one with its earlier products that may not pass it before it
+-- distinct products after a front, each one with its earlier products that may not pass it before it
 abbrev pub Waiting : (ℕ → ℕ → Bool) → ℕ → List ℕ → List ℕ → Type 0
 Waiting may n front [] = Unit {0}
 Waiting may n front (p ∷ w) = Ready may n front p × Waiting may n (p ∷ front) w
 
--- no product stands behind a later one that it may not pass
+-- no product stands after a later one that it may not pass
 abbrev pub NoneReversed : (ℕ → ℕ → Bool) → List ℕ → Type 0
 NoneReversed may [] = Unit {0}
 NoneReversed may (p ∷ w) = ((q : ℕ) → stands q w ≡ true → q < p → may q p ≡ true) × NoneReversed may w
@@ -52,3 +52,7 @@ pub record OrderOfAll (n : ℕ) (w : List ℕ) : Type 0 where
   pub within : (p : ℕ) → stands p w ≡ true → p < n
   pub distinct : Distinct w
   pub all : (p : ℕ) → p < n → stands p w ≡ true
+
+-- p may come next after an order: it waits on no earlier product that doesn't commute with it
+abbrev pub Next : List Step → List ℕ → ℕ → Type 0
+Next steps u p = Ready (pass commuting steps) (length steps) u p

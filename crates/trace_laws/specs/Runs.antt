@@ -24,16 +24,16 @@ abbrev pub axis_now : Trace → Step → Signed
 axis_now t s = carry t.turns s.axis
 
 -- the raw outcome
-abbrev pub raw_of : Act → Bool
-raw_of (rotate raw x) = raw
-raw_of (measure raw bit) = raw
-raw_of (settle first size value) = false
+abbrev pub raw_outcome : Act → Bool
+raw_outcome (rotate raw x) = raw
+raw_outcome (measure raw bit) = raw
+raw_outcome (settle first size value) = false
 
--- a bit behind a product, which may have been carried out
+-- a bit after a product, which may have been carried out
 abbrev pub bit_behind : Option Step → Option Signed → ℕ → Bool → Bool
 bit_behind None a b before = before
 bit_behind (Some s) None b before = before
-bit_behind (Some s) (Some a) b before = if writes s.act b then effective a (raw_of s.act) else before
+bit_behind (Some s) (Some a) b before = if writes s.act b then effective a (raw_outcome s.act) else before
 
 -- the effective outcome of the greatest product below p that writes the bit and was carried out, and 0 where there is none
 abbrev pub bit_below : List Step → List (ℕ × Signed) → ℕ → ℕ → Bool
@@ -98,7 +98,7 @@ plain_next steps t p None = t
 plain_next steps t p (Some s) =
     record { turns = t.turns ++ left_about (pull t.turns s.axis) s.axis s.act (flips steps t p s.act); axes = (p, pull t.turns s.axis) ∷ t.axes }
 
--- behind the first m products
+-- after the first m products
 abbrev pub plain : List Step → ℕ → Trace
 plain steps zero = begun
 plain steps (suc m) = plain_next steps (plain steps m) m (slice_get steps m)

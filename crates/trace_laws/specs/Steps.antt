@@ -1,6 +1,8 @@
 -- Products with their outcomes, and which of them commute.
-use Rattle.std.specs.Prelude.{ℕ, Bool, true, false, ◌+◌, ◌==◌, ◌&&◌, not, nat_le, nat_lt, List, All, Option, Some, None, slice_get}
+use Rattle.std.specs.Prelude.{ℕ, Bool, true, false, List, All, Option, Some, None, slice_get}
 use Rattle.pauli_product.specs.Signed.{Signed, OfLength, commute}
+use Rattle.pauli_product.specs.Commuting.{BitUses, is_among, is_written}
+use Rattle.pauli_product.specs.Commuting as uses
 
 -- what a product does, with its outcomes, `true` for -1: a pi/8 rotation with a raw and an X outcome, a measurement with a raw outcome into a bit, or a half turn where so many bits from a first one on spell a value
 pub data Act : Type 0 where
@@ -13,23 +15,23 @@ pub record Step : Type 0 where
   pub axis : Signed
   pub act : Act
 
+-- the bits that an act reads and writes
+abbrev pub uses_of : Act → BitUses
+uses_of (rotate raw x) = record { reads = λ b. false; write = None }
+uses_of (measure raw bit) = record { reads = λ b. false; write = Some bit }
+uses_of (settle first size value) = record { reads = is_among first size; write = None }
+
 -- whether an act writes a bit
 abbrev pub writes : Act → ℕ → Bool
-writes (rotate raw x) b = false
-writes (measure raw bit) b = bit == b
-writes (settle first size value) b = false
+writes a b = is_written (uses_of a).write b
 
 -- whether it reads a bit
 abbrev pub reads : Act → ℕ → Bool
-reads (rotate raw x) b = false
-reads (measure raw bit) b = false
-reads (settle first size value) b = nat_le first b && nat_lt b (first + size)
+reads a b = (uses_of a).reads b
 
 -- whether the first reads the bit that the second writes
 abbrev pub reads_from : Act → Act → Bool
-reads_from a (rotate raw x) = false
-reads_from a (measure raw bit) = reads a bit
-reads_from a (settle first size value) = false
+reads_from a a' = uses.reads_from (uses_of a) (uses_of a')
 
 -- products whose static axes commute
 abbrev pub axes_commute : Step → Step → Bool
@@ -37,7 +39,7 @@ axes_commute s t = commute s.axis t.axis
 
 -- products commute where their static axes do and neither reads a bit that the other writes
 abbrev pub commuting : Step → Step → Bool
-commuting s t = axes_commute s t && not (reads_from s.act t.act) && not (reads_from t.act s.act)
+commuting s t = uses.commuting s.axis (uses_of s.act) t.axis (uses_of t.act)
 
 -- a test of two products; a number that has no product passes
 abbrev pub both : (Step → Step → Bool) → Option Step → Option Step → Bool
@@ -52,3 +54,12 @@ pass test steps i j = both test (slice_get steps i) (slice_get steps j)
 -- products on n qubits
 abbrev pub StepsOfLength : ℕ → List Step → Type 0
 StepsOfLength n steps = All (λ s. OfLength n s.axis) steps
+
+-- a product without its outcomes
+abbrev pub bare_act : Act → Act
+bare_act (rotate raw x) = rotate false false
+bare_act (measure raw bit) = measure false bit
+bare_act (settle first size value) = settle first size value
+
+abbrev pub bare : Step → Step
+bare s = record { axis = s.axis; act = bare_act s.act }

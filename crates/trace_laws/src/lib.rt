@@ -8,7 +8,8 @@
 //! The functions do nothing: each carries a law in its contract.
 #![tactic(auto)]
 
-ghost use Rattle.trace_laws.specs.Laws.{CommutingIsKept, ConjugationCarries, ConjugationsExchange, TurnActsLast, NeighboursKeepAxes, OrderComesBySwaps, WaitingKeepsAxes, SourceAxes, WaitingKeepsFlips, BitsGiveAxes};
+ghost use Rattle.pauli_product.specs.Laws.{CommutingIsKept, ConjugationCarries, ConjugationsExchange, TurnActsLast};
+ghost use Rattle.trace_laws.specs.Laws.{NeighboursKeepAxes, OrderComesBySwaps, WaitingKeepsAxes, SourceAxes, WaitingKeepsFlips, BitsGiveAxes, NextWaits, NextHasSourceAxis, KnownAxis, KnownFlip, WaitingIsClosed, WaitingIsWithin, WaitingGrows, WaitingIsExchanged, SourceAxisIsPulled, BitsAgree, NumbersAgree};
 
 /// Two products commute exactly where their conjugates do.
 pub fn law_keep()
@@ -55,4 +56,30 @@ pub fn law_held_back()
 pub fn law_flips()
     ensures flips { WaitingKeepsFlips }
     ensures axes { BitsGiveAxes }
+{}
+
+/// A product that waits on none may be the next of an order, and has the axis of one gate at a time.
+/// That axis and whether it flips depend on the outcomes along the order alone.
+pub fn law_next()
+    ensures waits { NextWaits }
+    ensures axis { NextHasSourceAxis }
+    ensures known_axis { KnownAxis }
+    ensures known_flip { KnownFlip }
+{}
+
+/// An order in which each product waits has what its products wait for, may grow by a product that
+/// waits on none, and comes, with the other products after it, by exchanges of neighbours.
+pub fn law_waiting()
+    ensures closed { WaitingIsClosed }
+    ensures within { WaitingIsWithin }
+    ensures grows { WaitingGrows }
+    ensures exchanged { WaitingIsExchanged }
+{}
+
+/// A source axis is the static axis pulled through the turns of one gate at a time, bits agree where
+/// the axes of the products that write them do, and numbers agree where their bits do.
+pub fn law_bits()
+    ensures axis { SourceAxisIsPulled }
+    ensures bits { BitsAgree }
+    ensures numbers { NumbersAgree }
 {}

@@ -2,7 +2,7 @@ use Rattle.std.proofs.Common.{◌≡◌, List, ◌++◌, length, get_or, subst, 
 use Rattle.pauli_product.specs.declared.Letter.TheVariants.{X, Z}
 use Rattle.pauli_product.specs.Signed.{Signed, OfLength}
 use Rattle.pauli_product.specs.Pulls.{carry}
-use Rattle.pauli_product.proofs.Turns.{length_carry}
+use Rattle.pauli_product.proofs.Laws.{carry_length}
 use Rattle.std.proofs.lemmas.List.{with_items_is}
 use Rattle.frame_table.specs.Images.{After, turns_about}
 use Rattle.frame_table.proofs.Corrected.{after_turned, turned_anyhow}
@@ -27,7 +27,7 @@ returns-clause-corrected c = λ n ts h.
     let all = after_turned n ts axis a b
     (record { x = c.self.inside.x.items; z = c.self.inside.z.items })
     (record { x = c.turn_at.new.images; z = c.turn_at-2.new.images })
-    (length_carry n ts own h.long long)
+    (carry_length n ts own h.long long)
     was
     x_len
     z_len

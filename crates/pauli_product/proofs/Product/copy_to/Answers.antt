@@ -12,5 +12,5 @@ pub returns : goal.returns
 returns c =
     let both = both_shown c.self.invariant c.into.invariant c.self.view_is c.into.view_is c.requires in
     let count = c.copy_from_slice.ensures.len ∙ ap length c.as_mut_slice.ensures.value in
-    let words = refilled c.into.inside.words.items c.copy_from_slice.new.self count ∙ c.copy_from_slice.ensures.after ∙ c.as_slice.ensures in
+    let words = refilled c.into.inside.words.kept.items c.copy_from_slice.new.self count ∙ c.copy_from_slice.ensures.after ∙ c.as_slice.ensures in
     ap₂ (λ (n : ℕ) (ws : List Word). shown c.self.inside.sign n ws) (same_qubits both) words ∙ c.self.view_is

@@ -1,4 +1,4 @@
-use Rattle.pauli_product.proofs.Laws.{carry_cut, carry_length, carry_letters, carry_commuting}
+use Rattle.pauli_product.proofs.Laws.{carry_cut, carry_length, carry_letters, carry_commuting, carry_idle, carries_exchange}
 use Rattle.pauli_product.proofs.law.law_carry.Goals as goal
 
 pub returns-clause-cut : goal.returns-clause-cut
@@ -12,3 +12,9 @@ returns-clause-letters c = carry_letters
 
 pub returns-clause-commuting : goal.returns-clause-commuting
 returns-clause-commuting c = carry_commuting
+
+pub returns-clause-idle : goal.returns-clause-idle
+returns-clause-idle c = carry_idle
+
+pub returns-clause-exchange : goal.returns-clause-exchange
+returns-clause-exchange c = carries_exchange

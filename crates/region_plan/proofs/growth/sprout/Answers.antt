@@ -1,6 +1,5 @@
-use Rattle.std.proofs.Common.{◌≡◌, List, [], ◌∷◌, ap, refl, arith}
+use Rattle.std.proofs.Common.{◌≡◌, [], ◌∷◌, ap, refl, arith}
 use Rattle.patch_layout.specs.Spread.{starting}
-use Rattle.patch_layout.specs.declared.walk.Reached.{Reached}
 use Rattle.region_plan.specs.Free.{Free}
 use Rattle.region_plan.specs.Tree.{Growth}
 use Rattle.region_plan.proofs.Serving.{sprouted, sprouted_not}

@@ -1,8 +1,8 @@
-use Rattle.std.proofs.Common.{◌≡◌, ℕ, List, refl, sym, subst, arith, All}
+use Rattle.std.proofs.Common.{List, refl, sym, subst, arith, All}
 use Rattle.patch_layout.specs.declared.walk.Reached.{Reached}
 use Rattle.region_plan.specs.Free.{Free}
 use Rattle.region_plan.specs.Tree.{cells_in}
-use Rattle.region_plan.proofs.Porting.{Trying, trying_more, trying_done}
+use Rattle.region_plan.proofs.Porting.{trying_more}
 use Rattle.region_plan.proofs.ports.join_least_port.Goals as goal
 
 pub loop-factory-init : goal.loop-factory-init

@@ -1,4 +1,4 @@
-use Rattle.std.proofs.Common.{◌≡◌, ℕ, List, Option, refl, subst, arith}
+use Rattle.std.proofs.Common.{ℕ, List, Option, refl, subst, arith}
 use Rattle.patch_layout.specs.declared.layout.Side.TheVariants as side
 use Rattle.patch_layout.specs.Region.{OnSide}
 use Rattle.region_plan.specs.Free.{Free}

@@ -1,4 +1,4 @@
-use Rattle.std.proofs.Common.{◌≡◌, ℕ, List, Option, refl, subst}
+use Rattle.std.proofs.Common.{ℕ, List, Option, refl, subst}
 use Rattle.region_plan.specs.Free.{Free}
 use Rattle.region_plan.specs.Ways.{At}
 use Rattle.region_plan.proofs.Porting.{at_some, sprung_free, way_unoffered, way_apart, way_none, way_some}

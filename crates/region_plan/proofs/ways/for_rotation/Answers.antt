@@ -1,4 +1,4 @@
-use Rattle.std.proofs.Common.{◌≡◌, ℕ, List, None, length, ap, sym, subst, arith}
+use Rattle.std.proofs.Common.{◌≡◌, List, None, length, ap, sym, subst, arith}
 use Rattle.patch_layout.specs.declared.layout.Side.{Side}
 use Rattle.patch_layout.specs.Region.{wanted_sides}
 use Rattle.region_plan.proofs.Answering.{some_sides, best_some, found_way, found_no_way}

@@ -1,4 +1,4 @@
-use Rattle.std.proofs.Common.{refl, ap, sym, ◌∙◌, subst}
+use Rattle.std.proofs.Common.{Err, refl, ap, sym, ◌∙◌, subst}
 use Rattle.board_core.specs.declared.Entry.TheVariants.{Step}
 use Rattle.board_core.specs.Position.{Position, past, IsLegal, with_entry}
 use Rattle.board_core.specs.Kept.{Tables}
@@ -31,7 +31,7 @@ pub returns-in-Err-Stocked-clause-refused : goal.returns-in-Err-Stocked-clause-r
 returns-in-Err-Stocked-clause-refused c =
     let k = kept_at _ _ _ _ c.args.self.now c.self.view_is c.self.invariant in (
       ap (λ (t : Tables). position c.self.inside.products.items c.self.inside.layout t c.self.inside.history) c.in-Err-Stocked.ensures.refused ∙ c.self.view_is,
-      step_full c.args.self.now.job (past c.args.self.now) _ c.args.f k c.in-Err-Stocked.ready c.in-Err-Stocked.field-0 c.in-Err-Stocked.field-0-is (c.in-Err-Stocked.ensures.answer c.args.self.now.job (past c.args.self.now) k),
+      step_full c.args.self.now.job (past c.args.self.now) _ c.args.f k c.in-Err-Stocked.ready c.in-Err-Stocked.field-0 c.in-Err-Stocked.field-0-is (c.in-Err-Stocked.ensures.answer c.args.self.now.job (past c.args.self.now) k) (c.in-Err-Stocked.ensures.stocked c.in-Err-Stocked.ready (ap Err c.in-Err-Stocked.field-0-is)),
       refl,
     )
 
@@ -66,4 +66,4 @@ returns-in-Err-NoFactory-clause-complete c a =
 pub returns-in-Err-Stocked-clause-complete : goal.returns-in-Err-Stocked-clause-complete
 returns-in-Err-Stocked-clause-complete c a =
     let k = kept_at _ _ _ _ c.args.self.now c.self.view_is c.self.invariant in
-    absurd (step_accepted c.args.self.now c.args.f _ (why.Stocked c.in-Err-Stocked.ready) k.makers a (step_full c.args.self.now.job (past c.args.self.now) _ c.args.f k c.in-Err-Stocked.ready c.in-Err-Stocked.field-0 c.in-Err-Stocked.field-0-is (c.in-Err-Stocked.ensures.answer c.args.self.now.job (past c.args.self.now) k)))
+    absurd (step_accepted c.args.self.now c.args.f _ (why.Stocked c.in-Err-Stocked.ready) k.makers a (step_full c.args.self.now.job (past c.args.self.now) _ c.args.f k c.in-Err-Stocked.ready c.in-Err-Stocked.field-0 c.in-Err-Stocked.field-0-is (c.in-Err-Stocked.ensures.answer c.args.self.now.job (past c.args.self.now) k) (c.in-Err-Stocked.ensures.stocked c.in-Err-Stocked.ready (ap Err c.in-Err-Stocked.field-0-is))))

@@ -1,4 +1,4 @@
-use Rattle.std.proofs.Common.{◌≡◌, ◌==◌, Bool, List, length, ap, arith}
+use Rattle.std.proofs.Common.{◌==◌, Bool, List, length, ap, arith}
 use Rattle.std.proofs.lemmas.List.{length-map}
 use Rattle.region_plan.proofs.Marking.{cleared}
 use Rattle.region_plan.proofs.marks.Marks.clear.Goals as goal

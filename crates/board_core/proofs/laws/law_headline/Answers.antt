@@ -1,5 +1,0 @@
-use Rattle.board_core.proofs.WholeRun.{legal_run}
-use Rattle.board_core.proofs.laws.law_headline.Goals as goal
-
-pub returns : goal.returns
-returns c = legal_run

@@ -1,5 +1,0 @@
-use Rattle.board_core.proofs.Short.{legal_short}
-use Rattle.board_core.proofs.laws.law_short.Goals as goal
-
-pub returns : goal.returns
-returns c = legal_short

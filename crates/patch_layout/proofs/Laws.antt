@@ -1,0 +1,26 @@
+-- Proofs of the laws, under the names of their functions.
+use Rattle.patch_layout.specs.Laws.{FitsHaveCertificates, CertifiedFits, CertifiedAscends, NeighboursAreMutual, SidesAreAncilla, RowPatchesStand}
+use Rattle.patch_layout.proofs.Certificates.{certificate_for}
+use Rattle.patch_layout.proofs.Certifying.{fits_ascending}
+use Rattle.patch_layout.proofs.Fits.{certified_fits}
+use Rattle.patch_layout.proofs.Neighbours.{neighbour_back}
+use Rattle.patch_layout.proofs.Rows.{patch_place}
+use Rattle.patch_layout.proofs.Whole.{side_ancilla}
+
+pub law_certificate : FitsHaveCertificates
+law_certificate = certificate_for
+
+pub law_certified_fits : CertifiedFits
+law_certified_fits = certified_fits
+
+pub law_certified_ascends : CertifiedAscends
+law_certified_ascends c whole = fits_ascending c.grid c.cells whole.0.0.1
+
+pub law_neighbours : NeighboursAreMutual
+law_neighbours = neighbour_back
+
+pub law_sides : SidesAreAncilla
+law_sides = side_ancilla
+
+pub law_row_patches : RowPatchesStand
+law_row_patches = patch_place
