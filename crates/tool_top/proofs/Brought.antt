@@ -1,8 +1,9 @@
 -- What the history of a board that was brought to its end promises.
-use Rattle.std.proofs.Common.{◌≡◌, ℕ, ◌+◌, ◌<◌, List, [], ◌∷◌, ◌++◌, length, map, take, slice_get, Option, Some, None, refl, ap, sym, ◌∙◌, subst}
+use Rattle.std.proofs.Common.{◌≡◌, ℕ, ◌+◌, ◌<◌, ◌≤◌, List, [], ◌∷◌, ◌++◌, length, map, take, slice_get, Option, Some, None, All, refl, ap, sym, ◌∙◌, subst, arith}
 use Rattle.std.specs.Option.{option_map}
 use Rattle.std.specs.Prelude.{unwrap_or}
 use Rattle.std.proofs.lemmas.List.{take-map}
+use Rattle.std.proofs.lemmas.List.Elements.{All-nil, All-cons}
 use Rattle.std.proofs.lemmas.Option.{none-some, same_Some, slice_get-map}
 use Rattle.pauli_product.specs.Signed.{Signed}
 use Rattle.source_model.specs.declared.Given.{Given}
@@ -21,7 +22,9 @@ use Rattle.board_core.specs.Laws.{LegalAndCompleteIsTheHeadline}
 use Rattle.board_core.specs.Legal.{Job as BoardJob, Complete, Legal}
 use Rattle.board_core.specs.Position.{Position, past, note, IsLegal}
 use Rattle.board_core.specs.Shows.{Shows}
-use Rattle.schedule_text.specs.Text.{text_of, two}
+use Rattle.schedule_text.specs.Text.{text_of, two, HasNumber}
+use Rattle.schedule_text.specs.Written.{AllBy}
+use Rattle.schedule_text.specs.Laws.{LegalEntriesStand}
 use Rattle.finish_run.specs.Next.{IsPending, NoneIs, ComesNext}
 use Rattle.finish_run.specs.Finished.{GoesOn, behind, by_zero, own_from, own_or_given}
 use Rattle.history_replay.specs.Replay.{asked}
@@ -29,7 +32,8 @@ use Rattle.job_read.specs.declared.Job.{Job}
 use Rattle.job_read.specs.Kept.{IsJob}
 use Rattle.tool_top.specs.Serial.{board_job, ClaimsAscend, IsJoinedBehind, RegionsJoin, IsSerialSchedule}
 use Rattle.tool_top.specs.Schedules.{asked_of}
-use Rattle.tool_top.specs.Carried.{IsBroughtToEnd, new_position, parts_job}
+use Rattle.tool_top.specs.Carried.{HasBoard, IsBroughtToEnd, new_position, parts_job}
+use Rattle.tool_top.proofs.Boards.{job_board}
 use Rattle.tool_top.proofs.Claims.{claims_ascend}
 
 -- entries that pass 0 made, without its number
@@ -75,20 +79,37 @@ own_nothing p (g ∷ gs) = ap (λ xs. g ∷ xs) (own_nothing (p + 1) gs)
 pub all_given : (given : List Given) → own_or_given [] given ≡ given
 all_given given = own_nothing 0 given
 
--- ---- what is written
-pub serial_schedule : LegalAndCompleteIsTheHeadline → (job : Job) (b : Position) → IsJob job → IsBroughtToEnd job b → IsSerialSchedule job (text_of two b.history job.circuit.registers (bit_after job.circuit.items job.outcomes.given))
-serial_schedule law job b kept end =
-    record {
-      schedule =
-          (b.history, law job.circuit.qubits job.circuit.items job.layout job.outcomes.fails job.outcomes.given (past b) kept.circuit.well_formed.axes_fit kept.right_kinds end.legal end.complete, refl);
-      ascending = ascend_from (board_job job) job.outcomes.given b end.goes;
-      joined = joins_from (board_job job) job.outcomes.given b end.goes;
-    }
-
 -- ---- from a new board
 pub same_job : (job : Job) (fails : List Fail) → IsJob job → fails ≡ job.outcomes.fails → parts_job job.layout job.products fails ≡ board_job job
 same_job job fails kept e =
     ap (λ (ps : List Static). parts_job job.layout ps fails) kept.products ∙ ap (λ (fs : List Fail). parts_job job.layout (statics job.circuit.items) fs) e
+
+-- ---- what is written
+
+-- worker 0 made all entries
+zeros : (es : List Entry) → AllBy 0 (by_zero es)
+zeros [] = All-nil (λ (n : Noted). n.by ≡ 0)
+zeros (e ∷ es) = All-cons (λ (n : Noted). n.by ≡ 0) (note 0 e) (by_zero es) refl (zeros es)
+
+-- the number 0 is one that a text can have
+have_numbers : (h : List Noted) → AllBy 0 h → All HasNumber h
+have_numbers h by k d low = subst (λ (m : ℕ). m ≤ 63) (sym (by k d low)) (omega arith)
+
+pub serial_schedule : LegalAndCompleteIsTheHeadline → LegalEntriesStand → (job : Job) (b : Position) → IsJob job → IsBroughtToEnd job b → IsSerialSchedule job (text_of two b.history job.circuit.registers (bit_after job.circuit.items job.outcomes.given))
+serial_schedule headline stand job b kept end =
+    let by : AllBy 0 b.history = subst (AllBy 0) (sym (history_is (board_job job) job.outcomes.given b end.goes)) (zeros end.goes.added) in
+    let has : HasBoard (board_job job) = subst HasBoard (same_job job job.outcomes.fails kept refl) (job_board job kept) in
+    record {
+      schedule = record {
+        history = b.history;
+        stands = stand (board_job job) b.history has.limits kept.sound has.letters end.legal (have_numbers b.history by);
+        legal = headline job.circuit.qubits job.circuit.items job.layout job.outcomes.fails job.outcomes.given (past b) kept.circuit.well_formed.axes_fit kept.right_kinds end.legal end.complete;
+        are = refl;
+      };
+      worker = by;
+      ascending = ascend_from (board_job job) job.outcomes.given b end.goes;
+      joined = joins_from (board_job job) job.outcomes.given b end.goes;
+    }
 
 pub brought : (job : Job) (start b : Position) → start ≡ new_position (board_job job) → Complete b.job (past b) (own_or_given (past start) job.outcomes.given) → GoesOn LeastJoined job.outcomes.given start b → IsLegal b → IsBroughtToEnd job b
 brought job start b e complete goes legal =

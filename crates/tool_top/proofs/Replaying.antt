@@ -11,6 +11,7 @@ use Rattle.board_core.specs.Laws.{LegalAndCompleteIsTheHeadline}
 use Rattle.board_core.specs.Legal.{Job as BoardJob, Complete}
 use Rattle.board_core.specs.Position.{Position, past, with_history}
 use Rattle.schedule_text.specs.Text.{text_of, two}
+use Rattle.schedule_text.specs.Laws.{LegalEntriesStand}
 use Rattle.slice_write.specs.Slices.{sliced}
 use Rattle.slice_write.specs.Pictures.{slices_text}
 use Rattle.history_replay.specs.Replay.{IsTextOf, FirstBad, asked}
@@ -86,10 +87,10 @@ writes_of w end job c b kept same is complete writes =
       complete = subst (λ (j : BoardJob). Complete j (past b) job.outcomes.given) (sym is) complete;
     }))
 
-pub serial_ends : (r : Shelved) (w : Writing) (c l o : List ℕ) (job : Job) (circuit : Circuit) (b : Position) (end : Result (Unit {0}) Fault) → LegalAndCompleteIsTheHeadline → StandsForJob (job_on r c l o) job → IsJob job → circuit ≡ job.circuit → IsBroughtToEnd job b → ((table : List Given) → IsComplete circuit b table → ScheduleOf w end b.history table circuit) → Ends r w (serial c l o) end
-serial_ends r w c l o job circuit b end law stands kept same brought writes =
+pub serial_ends : (r : Shelved) (w : Writing) (c l o : List ℕ) (job : Job) (circuit : Circuit) (b : Position) (end : Result (Unit {0}) Fault) → LegalAndCompleteIsTheHeadline → LegalEntriesStand → StandsForJob (job_on r c l o) job → IsJob job → circuit ≡ job.circuit → IsBroughtToEnd job b → ((table : List Given) → IsComplete circuit b table → ScheduleOf w end b.history table circuit) → Ends r w (serial c l o) end
+serial_ends r w c l o job circuit b end law entries_stand stands kept same brought writes =
     written_ends r w (serial c l o) (text_of two b.history job.circuit.registers (bit_after job.circuit.items job.outcomes.given)) end
-    (job, stands, serial_schedule law job b kept brought)
+    (job, stands, serial_schedule law entries_stand job b kept brought)
     (writes_of w end job circuit b kept same brought.job_is brought.complete writes)
 
 on_schedule : (r : Shelved) (c l o s : List ℕ) (x : Replayed) (P : Job → List Noted → Type 0) → (i : IsReplayed r c l o s x) → P i.job x.board.history → OnSchedule r c l o s P

@@ -11,7 +11,7 @@ use Rattle.board_core.specs.Headline.{job_of}
 use Rattle.board_core.specs.History.{History, entries}
 use Rattle.board_core.specs.Legal.{Job as BoardJob}
 use Rattle.board_core.specs.Shows.{Shows}
-use Rattle.schedule_text.specs.Written.{IsSchedule}
+use Rattle.schedule_text.specs.Written.{IsSchedule, AllBy}
 use Rattle.job_read.specs.declared.Job.{Job}
 
 -- the board's job of what was read
@@ -29,7 +29,7 @@ claims_in (Settle p flip) = []
 abbrev pub ClaimsAscend : History → Type 0
 ClaimsAscend h = IsStrictlyIncreasing (flat_map claims_in h)
 
--- the region is joined side by side in the cells that are free behind a history, each time by the least number of cells, from the
+-- the region is joined side by side in the cells that are free after a history, each time by the least number of cells, from the
 -- least first cell that serves, and through the least port that serves
 abbrev pub IsJoinedBehind : BoardJob → List Noted → ℕ → Option ℕ → List ℕ → Type 0
 IsJoinedBehind j h p port cells = (look : Look) × Shows (record { job = j; history = h }) p look × LeastJoined j.grid look port cells
@@ -41,9 +41,10 @@ RegionsJoin j h =
     → slice_get h n ≡ Some (record { by = by; entry = Claim p axis port state cells })
     → IsJoinedBehind j (take n h) p port cells
 
--- the text is that of one legal history of the job, with the source's bits for its outcomes; products are claimed in ascending order,
--- and each region is joined in the free cells
+-- the text is that of one legal history of the job, with the source's bits for its outcomes; worker 0 made all entries, products are
+-- claimed in ascending order, and each region is joined in the free cells
 pub record IsSerialSchedule (job : Job) (text : List ℕ) : Type 0 where
   pub schedule : IsSchedule job.circuit.items job.circuit.registers job.layout job.outcomes.fails job.outcomes.given text
-  pub ascending : ClaimsAscend (entries schedule.0)
-  pub joined : RegionsJoin (board_job job) schedule.0
+  pub worker : AllBy 0 schedule.history
+  pub ascending : ClaimsAscend (entries schedule.history)
+  pub joined : RegionsJoin (board_job job) schedule.history

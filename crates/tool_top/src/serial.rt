@@ -6,6 +6,7 @@ ghost use Rattle.source_model.specs.Circuits.{WellFormed};
 ghost use Rattle.source_model.specs.SourceRun.{bit_after};
 ghost use Rattle.source_model.specs.Statics.{statics};
 ghost use Rattle.board_core.specs.Laws.{LegalAndCompleteIsTheHeadline};
+ghost use Rattle.schedule_text.specs.Laws.{LegalEntriesStand};
 ghost use Rattle.schedule_text.specs.Text.{text_of, two};
 ghost use Rattle.job_read.specs.Kept.{IsJob};
 ghost use Rattle.tool_words.specs.Commands as tool;
@@ -21,7 +22,7 @@ use board_core::{Board, law_headline};
 use finish_run::finish;
 use job_read::{Job, read_job};
 use patch_base::{Memory, Shelf, Sink};
-use schedule_text::{bits_of, write_schedule};
+use schedule_text::{bits_of, law_legal_entries_stand, write_schedule};
 use source_model::Circuit;
 use std::alloc::Global;
 
@@ -46,6 +47,7 @@ pub fn serial<S: Shelf, O: Sink>(
         (f : Fault_of) → Refuses r (tool.serial circuit.now layout.now outcomes.now) f → EndsBy f result }
 {
     law_headline();
+    law_legal_entries_stand();
     let job = read_job(alloc, shelf, circuit, layout, outcomes)?;
     let done = carry_out(alloc, job)?;
     write_board(alloc, &done.circuit, &done.board, out)

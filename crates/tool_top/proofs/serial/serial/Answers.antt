@@ -13,7 +13,7 @@ returns-clause-ends g c =
     (shelved (g.S.Shelf.tells c.args.shelf.now) (g.S.Shelf.faults c.args.shelf.now) (g.S.Shelf.faults c.read_job.new.shelf))
     (writing (g.O.Sink.taken c.args.out.now) (g.O.Sink.taken c.write_board.new.out) (g.O.Sink.faults c.args.out.now) (g.O.Sink.faults c.write_board.new.out))
     c.args.circuit.now c.args.layout.now c.args.outcomes.now c.in_ok-job.job c.in_ok-done.done.circuit c.in_ok-done.done.board c.write_board.result
-    c.law_headline.ensures c.in_ok-job.ensures.accepted c.in_ok-job.ensures.kept c.in_ok-done.ensures.circuit c.in_ok-done.ensures.board c.write_board.ensures.written
+    c.law_headline.ensures c.law_legal_entries_stand.ensures c.in_ok-job.ensures.accepted c.in_ok-job.ensures.kept c.in_ok-done.ensures.circuit c.in_ok-done.ensures.board c.write_board.ensures.written
 
 pub returns-in_err-job-clause-complete : goal.returns-in_err-job-clause-complete
 returns-in_err-job-clause-complete g c = λ a.
