@@ -1,7 +1,7 @@
 pub mod Onward
 pub mod Past
 pub mod Accepting
-pub mod Axes
+pub mod Lengths
 pub mod Turns
 pub mod Stocked
 pub mod Stepping
@@ -10,3 +10,4 @@ pub mod Planning
 pub mod Carried
 pub mod Rest
 pub mod Completing
+pub mod Laws

@@ -34,7 +34,7 @@ use Rattle.board_core.specs.Position.{Position, past, IsLegal}
 use Rattle.finish_run.specs.Looks.{IsServed, IsStocked, ShowsTurn}
 use Rattle.finish_run.proofs.Past.{nothing_held}
 use Rattle.finish_run.proofs.Turns.{look_untaken, look_waits, turn_unclaimed, turn_waits}
-use Rattle.finish_run.proofs.Axes.{axis_letter, items_long}
+use Rattle.finish_run.proofs.Lengths.{items_long}
 use Rattle.finish_run.proofs.Stocked.{ready_factory}
 
 same_product : (b : Position) (p : ℕ) (s t : Static) → IsProduct b p s → IsProduct b p t → s ≡ t
@@ -67,7 +67,7 @@ module _ (b : Position) (p : ℕ) (look : Look) (legal : IsLegal b) (shows : Sho
   region = subst (λ (x : Static). TakesRegion x.kind) (same_product b p served.0 shows.shows.static served.1 shows.shows.is) served.2
 
   pub letter_there : (q : ℕ) × HasLetter look.axis q
-  letter_there = axis_letter b.job (past b) p shows.shows.static look.axis shows.shows.is shows.axis_of (legal.letters p shows.shows.static shows.shows.is)
+  letter_there = shows.letter
 
   -- ---- nothing is held
   free_of : (q c : ℕ) → Holds b.job.grid (past b) q c → ⊥
@@ -114,7 +114,7 @@ module _ (b : Position) (p : ℕ) (look : Look) (legal : IsLegal b) (shows : Sho
   state_ready : (f : ℕ) → HasState look f → (n : ℕ) × (ss : List ℕ) × (ready b f ≡ n ∷ ss)
   state_ready f x =
       let l = slice_get_within look.ready f x.0 x.1 in
-      let sizes = stocked.0 in
+      let sizes = shows.shows.factories in
       let here = shows.shows.ready-are f (omega (arith, l, sizes)) in
       let same : length (ready b f) ≡ x.0 = same_Some (length (ready b f)) x.0 (sym here ∙ x.1) in
       let some : 0 < x.0 = x.2 in
@@ -131,7 +131,7 @@ module _ (b : Position) (p : ℕ) (look : Look) (legal : IsLegal b) (shows : Sho
   not_blocked (inr none) = go look.rotation refl
     where
       rotating : look.rotation ≡ true → ⊥
-      rotating r = stocked.1 (
+      rotating r = stocked (
         r,
         λ f x.
             let port = port_of f x in
@@ -142,12 +142,12 @@ module _ (b : Position) (p : ℕ) (look : Look) (legal : IsLegal b) (shows : Sho
       go true r = rotating r
       go false r = none None r (all_serve None tt)
 
-  -- the planner has no other answer than a region, but for want of memory
+  -- the planner has no other answer than a region, unless it is out of memory
   pub no_other : (M : Option ℕ → List ℕ → Type 0) (a : Planned) → Answers M b.job.grid look a
       → ((place : ℕ) × (a ≡ planned.Taken place)) ⊎ (((on : ℕ) × (a ≡ planned.NotReady on)) ⊎ ((a ≡ planned.NoReady) ⊎ (a ≡ planned.Blocked))) → ⊥
   no_other M a x (inl y) = none-some y.0 (sym (look_untaken b p look shows.turn shows.shows) ∙ subst (λ (a : Planned). Answers M b.job.grid look a) y.1 x)
   no_other M a x (inr (inl y)) = none-some y.0 (sym (look_waits b p look shows.turn shows.shows) ∙ (subst (λ (a : Planned). Answers M b.job.grid look a) y.1 x).1)
-  no_other M a x (inr (inr (inl y))) = stocked.1 (subst (λ (a : Planned). Answers M b.job.grid look a) y x).1
+  no_other M a x (inr (inr (inl y))) = stocked (subst (λ (a : Planned). Answers M b.job.grid look a) y x).1
   no_other M a x (inr (inr (inr y))) = not_blocked (subst (λ (a : Planned). Answers M b.job.grid look a) y x).1
 
   -- ---- nothing speaks against a claim by its region

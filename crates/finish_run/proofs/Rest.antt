@@ -15,7 +15,7 @@ use Rattle.finish_run.specs.Finished.{DoneBelow, GoesOn}
 use Rattle.finish_run.proofs.Onward.{goes_past}
 use Rattle.finish_run.proofs.Past.{not_both}
 use Rattle.finish_run.proofs.Pending.{as_many}
-use Rattle.finish_run.proofs.Axes.{product_long}
+use Rattle.finish_run.proofs.Lengths.{product_long}
 use Rattle.std.proofs.lemmas.List.{length-replicate}
 use Rattle.finish_run.specs.Looks.{IsMadeFor}
 use Rattle.board_core.specs.Laws.{ProductsOfLength}

@@ -1,5 +1,5 @@
 -- A history that goes on from another one, and the table that it is complete for.
-use Rattle.std.specs.Prelude.{◌≡◌, ℕ, ◌+◌, slice_get, List, [], ◌∷◌, ◌++◌, map, take, Some, unwrap_or, IsSome, ◌<◌}
+use Rattle.std.specs.Prelude.{◌≡◌, ℕ, ◌+◌, slice_get, List, [], ◌∷◌, ◌++◌, map, take, Some, unwrap_or, IsSome, All, ◌<◌}
 use Rattle.source_model.specs.declared.Given.{Given}
 use Rattle.board_core.specs.declared.Entry.{Entry}
 use Rattle.board_core.specs.declared.Noted.{Noted}
@@ -7,15 +7,15 @@ use Rattle.board_core.specs.History.{History, delivered, done_place}
 use Rattle.board_core.specs.Position.{Position, with_history, note}
 use Rattle.finish_run.specs.Next.{Meeting, ComesNext}
 
--- these entries, each by pass 0
+-- these entries, each by worker 0
 abbrev pub by_zero : List Entry → List Noted
 by_zero es = map (λ e. note 0 e) es
 
--- the board behind these further entries
+-- the board after these further entries
 abbrev pub behind : Position → List Entry → Position
 behind b es = with_history b (b.history ++ by_zero es)
 
--- the board c is b behind further entries by pass 0, each of which comes next
+-- the board c is b after further entries by worker 0, each of which comes next
 pub record GoesOn (Meets : Meeting) (given : List Given) (b c : Position) : Type 0 where
   pub added : List Entry
   pub is : c ≡ behind b added
@@ -33,3 +33,7 @@ own_or_given h given = own_from 0 h given
 -- each product below p is done
 abbrev pub DoneBelow : History → ℕ → Type 0
 DoneBelow h p = (q : ℕ) → q < p → IsSome (done_place h q)
+
+-- a new board that is brought to its end has entries by worker 0 alone
+abbrev pub NewBoardsAreByZero : Type 0
+NewBoardsAreByZero = (b c : Position) (added : List Entry) → b.history ≡ [] → c ≡ behind b added → All (λ n. n.by ≡ 0) c.history

@@ -1,5 +1,6 @@
 -- Looks at a product whose turn it is.
 use Rattle.std.specs.Prelude.{◌≡◌, ℕ, length}
+use Rattle.pauli_product.specs.Signed.{IsNotIdentity}
 use Rattle.source_model.specs.declared.Static.{Static}
 use Rattle.patch_layout.specs.declared.look.Look.{Look}
 use Rattle.region_plan.specs.Free.{LacksState}
@@ -21,10 +22,11 @@ IsServed b p = (s : Static) × IsProduct b p s × TakesRegion s.kind
 
 -- a rotation has a ready state
 abbrev pub IsStocked : Look → Type 0
-IsStocked look = (length look.ready ≡ 16) × (LacksState look → ⊥)
+IsStocked look = LacksState look → ⊥
 
--- the look shows the product whose turn it is, with the axis that source order gives it
+-- the look shows the product whose turn it is, with the axis that source order gives it, which has a letter other than I
 pub record ShowsTurn (b : Position) (p : ℕ) (look : Look) : Type 0 where
   pub turn : IsTurnOf b p
   pub shows : Shows b p look
   pub axis_of : AxisOf b.job (past b) p look.axis
+  pub letter : IsNotIdentity look.axis

@@ -17,7 +17,7 @@ use region_plan::{JoiningPlanner, Planner};
 use source_model::Given;
 use std::alloc::Global;
 
-/// Want of memory.
+/// Out of memory.
 #[derive(Drop)]
 pub struct FinishMemory {
     /// The board that was handed in, with what was done so far. Its history is legal.
@@ -28,11 +28,11 @@ pub struct FinishMemory {
 ///
 /// What is claimed is delivered and then released, in ascending order. Then each product that isn't done is settled, or
 /// claimed by a region of the planner, delivered and released, in ascending order. The least factory makes a step
-/// exactly while the next product is a rotation and no factory has a ready state. All new entries are by pass 0.
+/// exactly while the next product is a rotation and no factory has a ready state. All new entries are by worker 0.
 ///
 /// # Errors
 ///
-/// `FinishMemory` where memory is wanting, and nothing else: of a layout that is open for the products the planner
+/// `FinishMemory` out of memory, and nothing else: of a layout that is open for the products the planner
 /// answers a region for each, and the board accepts it.
 pub fn finish_by<P: Planner>(
     alloc: Global,
@@ -58,7 +58,7 @@ pub fn finish_by<P: Planner>(
 ///
 /// # Errors
 ///
-/// `FinishMemory` where memory is wanting, and nothing else.
+/// `FinishMemory` out of memory, and nothing else.
 pub fn finish(alloc: Global, board: Board, outcomes: &Outcomes) -> Result<Board, FinishMemory>
     requires { AreOutcomesOf outcomes.now.given board.job.products }
     ensures complete { IfOk result (λ b. Complete b.job (past b) (own_or_given (past board) outcomes.now.given)) }
@@ -70,7 +70,7 @@ pub fn finish(alloc: Global, board: Board, outcomes: &Outcomes) -> Result<Board,
     finish_by(alloc, board, outcomes, &mut JoiningPlanner)
 }
 
-/// Brings a board to its end in place. Where memory is wanting, what was done so far stays.
+/// Brings a board to its end in place. Out of memory, what was done so far stays.
 fn bring<P: Planner>(
     alloc: Global,
     board: &mut Board,

@@ -3,10 +3,10 @@
 
 mod calls;
 mod ending;
+mod law;
 mod making;
 mod phases;
 mod serving;
-#[cfg(test)]
-mod tests;
 
 pub use ending::{FinishMemory, finish, finish_by};
+pub use law::law_by_zero;

@@ -32,8 +32,7 @@ pub(crate) fn least_factory(layout: &Layout) -> u32
 
 /// Whether the product of the look is a rotation, and no factory has a ready state.
 fn lacks_state(look: &Look) -> bool
-    ensures lacks { IsTrue result ↔ LacksState look.now }
-    ensures sizes { length look.now.ready ≡ 16 }
+    ensures { IsTrue result ↔ LacksState look.now }
 {
     let counts = ready_of(look);
     look.rotation && are_zero(counts)
@@ -41,8 +40,7 @@ fn lacks_state(look: &Look) -> bool
 
 /// The ready states of each factory number.
 fn ready_of(look: &Look) -> &[u32]
-    ensures value { result.now ≡ look.now.ready }
-    ensures sizes { length result.now ≡ 16 }
+    ensures { result.now ≡ look.now.ready }
 {
     &look.ready
 }

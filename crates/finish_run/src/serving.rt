@@ -62,7 +62,7 @@ fn settle(alloc: Global, board: &mut Board, given: &[Given], p: u32) -> Result<(
     Ok(())
 }
 
-/// Claims, delivers and releases the product whose turn it is. Once it is claimed, no memory is wanted.
+/// Claims, delivers and releases the product whose turn it is. Once it is claimed, no memory is needed.
 fn serve<P: Planner>(
     alloc: Global,
     board: &mut Board,

@@ -3,6 +3,6 @@ use Rattle.std.proofs.Common.{◌≡◌, ℕ, List, IsTrue, ◌↔◌, All, subs
 use Rattle.finish_run.proofs.Stocked.{lacks}
 use Rattle.finish_run.proofs.making.lacks_state.Goals as goal
 
-pub returns-then-look-clause-lacks : goal.returns-then-look-clause-lacks
-returns-then-look-clause-lacks c =
-    lacks c.args.look.now c.are_zero.result c.if-look.true (subst (λ (l : List ℕ). IsTrue c.are_zero.result ↔ All (λ n. n ≡ 0) l) c.ready_of-counts.ensures.value c.are_zero.ensures)
+pub returns-then-look : goal.returns-then-look
+returns-then-look c =
+    lacks c.args.look.now c.are_zero.result c.if-look.true (subst (λ (l : List ℕ). IsTrue c.are_zero.result ↔ All (λ n. n ≡ 0) l) c.ready_of-counts.ensures c.are_zero.ensures)

@@ -7,7 +7,7 @@ use Rattle.finish_run.proofs.making.prepare.Goals as goal
 
 pub run-requires-clause-wants : goal.run-requires-clause-wants
 run-requires-clause-wants c =
-    (c.args.p, wants_state c.loop-alloc.board c.args.p c.show.new.look c.loop-alloc.invariant.legal c.show.ensures.shown (c.lacks_state.ensures.lacks.0 c.if-not-lacks_state.false))
+    (c.args.p, wants_state c.loop-alloc.board c.args.p c.show.new.look c.loop-alloc.invariant.legal c.show.ensures.shown (c.lacks_state.ensures.0 c.if-not-lacks_state.false))
 
 pub loop-alloc-preserved : goal.loop-alloc-preserved
 loop-alloc-preserved c = record {

@@ -7,6 +7,7 @@ returns-clause-shown c = record {
   turn = c.requires.turn;
   shows = c.in-Ok.ensures.shown;
   axis_of = c.in-Ok.ensures.source (turn_undone c.args.board.now c.args.p c.requires.turn) (look_waits c.args.board.now c.args.p c.look.new.look c.requires.turn c.in-Ok.ensures.shown);
+  letter = c.in-Ok.ensures.letter;
 }
 
 pub returns-clause-made : goal.returns-clause-made
