@@ -13,9 +13,9 @@ use Rattle.board_core.specs.History.{entries}
 use Rattle.board_core.specs.Legal.{Complete}
 use Rattle.board_core.proofs.LegalOrder.{at_end}
 use Rattle.schedule_text.specs.Text.{Version, header_line, entry_line, bits_line, Prints, lines_of, text_of, ended}
-use Rattle.schedule_text.specs.Lines.{IsEntryLine}
+use Rattle.schedule_text.specs.Lines.{IsEntryLine, StandsIn}
 use Rattle.schedule_text.proofs.OneText.{Free, AllFree, free_header, free_bits_line, free_bits_lines, all_free_append, free_entry_lines}
-use Rattle.history_replay.specs.Replay.{Question, AreEntryLines, MayFollow, Splits, GoodUpTo, IsTextOf, FirstBad, StandsIn}
+use Rattle.history_replay.specs.Replay.{Question, AreEntryLines, MayFollow, Splits, GoodUpTo, IsTextOf, FirstBad}
 use Rattle.history_replay.specs.Joining.{AgreeAll}
 use Rattle.history_replay.proofs.Splitting.{splits_one}
 use Rattle.history_replay.proofs.Reading.{Stands, Entry_next, Bits_next, what_follows, good_up_to, reads_one, reads_of, length_take}

@@ -8,3 +8,4 @@ pub mod Joined
 pub mod Closing
 pub mod Verdicts
 pub mod Replayed
+pub mod Laws

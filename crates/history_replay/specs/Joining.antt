@@ -25,7 +25,7 @@ use Rattle.history_replay.specs.Replay.{Agrees, AreEntryLines}
 abbrev pub CertifiedAs : Grid → Plan → Type 0
 CertifiedAs g plan = Certified (case_of g (is_some plan.port) plan) ↔ (Ascending plan.cells × Fit g plan.axis plan.port plan.cells)
 
--- an entry is allowed behind a history, and a delivery has the table's outcome
+-- an entry is allowed after a history, and a delivery has the table's outcome
 abbrev pub MayJoin : List Given → Position → Noted → Type 0
 MayJoin table b n = Allowed b.job (past b) n.entry × Agrees table n.entry
 
@@ -67,7 +67,7 @@ IsEntered table v text start was now (UpTo at) =
     Begins was.job table v (drop start text) now.history (drop at text) × (now.job ≡ was.job) × (at ≤ length text)
     × ((n : Noted) → BeginsEntry v (drop at text) n → ⊥)
 
--- the lines of bits end the text, behind a complete history
+-- the lines of bits end the text, after a complete history
 pub record Closes (table : List Given) (b : Position) (registers : List Register) (bit : ℕ → Bool) (text : List ℕ) : Type 0 where
   pub complete : Complete b.job (past b) table
   pub text_is : text ≡ bits_text registers bit

@@ -18,7 +18,7 @@ pub record IsHeader (text : List ℕ) (version next : ℕ) : Type 0 where
   pub text_is : text ≡ header_line (version_of version) ++ 10 ∷ drop next text
   pub within : next ≤ length text
 
--- the lines of the first k registers' bits, and behind them neither the next register's line nor, behind the last one's, the text's end
+-- the lines of the first k registers' bits, and after them neither the next register's line nor, after the last one's, the text's end
 pub record StopsAt (registers : List Register) (bit : ℕ → Bool) (text : List ℕ) (k : ℕ) : Type 0 where
   pub few : k ≤ length registers
   pub behind : List ℕ

@@ -10,8 +10,8 @@ use Rattle.board_core.specs.declared.Entry.{Entry}
 use Rattle.board_core.specs.declared.Entry.TheVariants.{Claim, Deliver, Release, Step, Settle}
 use Rattle.board_core.specs.History.{entries}
 use Rattle.board_core.specs.Legal.{Job, Legal, Complete}
-use Rattle.schedule_text.specs.Text.{Version, header_line, bits_line, text_of, ended, Prints}
-use Rattle.schedule_text.specs.Lines.{IsEntryLine, IsShaped}
+use Rattle.schedule_text.specs.Text.{Version, header_line, bits_line, text_of, ended}
+use Rattle.schedule_text.specs.Lines.{IsEntryLine, StandsIn}
 
 -- what a text is read against: a job, a table of outcomes, the registers, and the bits that the table leaves
 pub record Question : Type 0 where
@@ -50,23 +50,19 @@ AddsEntry q before line =
     (v : Version) × (h : List Noted) × (n : Noted) × Reads q v h 0 before × IsEntryLine v line n
     × Legal q.job (entries (h ++ n ∷ [])) × Agrees q.table n.entry
 
--- the next register's bits stand behind a complete history
+-- the next register's bits come after a complete history
 abbrev pub AddsBits : Question → List (List ℕ) → List ℕ → Type 0
 AddsBits q before line =
     (v : Version) × (h : List Noted) × (k : ℕ) × (r : Register) × Reads q v h k before × Complete q.job (entries h) q.table
     × (slice_get q.registers k ≡ Some r) × (line ≡ bits_line q.bit r)
 
--- a line that may stand behind these lines
+-- a line that may come after these lines
 abbrev pub MayFollow : Question → List (List ℕ) → List ℕ → Type 0
 MayFollow q before line = BeginsText before line ⊎ AddsEntry q before line ⊎ AddsBits q before line
 
--- the ended lines of a text, and the bytes behind the last line feed
+-- the ended lines of a text, and the bytes after the last line feed
 abbrev pub Splits : List ℕ → List (List ℕ) → List ℕ → Type 0
 Splits text lines rest = (text ≡ flat_map ended lines ++ rest) × All IsOneLine lines × IsOneLine rest
-
--- an entry that a text of the version may have
-abbrev pub StandsIn : Version → Noted → Type 0
-StandsIn v n = Prints v n × IsShaped v n.entry
 
 -- the text is that of this history, which is legal and complete for the table
 pub record IsTextOf (q : Question) (text : List ℕ) (v : Version) (h : List Noted) : Type 0 where

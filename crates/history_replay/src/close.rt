@@ -1,4 +1,4 @@
-//! The end of a schedule: lines of bits behind a complete history.
+//! The end of a schedule: lines of bits after a complete history.
 
 ghost use Rattle.std.specs.Prelude.{◌≡◌, ◌↔◌, ℕ, ◌+◌, ◌^◌, ◌<◌, ◌≤◌, List, ◌∷◌, ◌++◌, All, length, drop, MatchOption, IfOk, IfSome, IfNone, IsTrue};
 ghost use Rattle.source_model.specs.declared.Given.{Given};
@@ -18,7 +18,7 @@ use schedule_text::bits_of;
 use source_model::{Circuit, Kind, Register};
 use std::alloc::Global;
 
-/// Whether a product is done, and has given its region back.
+// Whether a product is done, and has given its region back.
 fn is_over(board: &Board, p: u32, kind: Kind) -> bool
     requires { p < length board.now.job.products }
     ensures { IsTrue result ↔ IsOver board.now p kind }
@@ -32,7 +32,7 @@ fn is_over(board: &Board, p: u32, kind: Kind) -> bool
     }
 }
 
-/// Whether all products are over.
+// Whether all products are over.
 fn is_complete(board: &Board) -> bool
     requires { IsLegal board.now }
     ensures { IsTrue result ↔ AllOver board.now }
@@ -45,7 +45,7 @@ fn is_complete(board: &Board) -> bool
     true
 }
 
-/// Where the line behind the register's line of bits begins.
+// Where the line after the register's line of bits begins.
 fn behind(text: &[u8], at: usize, register: &Register, bits: &[bool]) -> Option<usize>
     requires name { IsOneLine register.now.name }
     requires bits { IsWithin (length bits.now) register.now }
@@ -89,7 +89,7 @@ fn close_bits(
     if at < text.len() { Some(line) } else { None }
 }
 
-/// The first bad line from a place on, behind the entry lines of the board's history.
+/// The first bad line from a place on, after the entry lines of the board's history.
 pub(crate) fn close(
     alloc: Global,
     board: &Board,

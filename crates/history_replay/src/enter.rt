@@ -30,7 +30,7 @@ pub(crate) enum Entered {
     UpTo { at: usize },
 }
 
-/// Whether the table has this outcome for the product.
+// Whether the table has this outcome for the product.
 fn has_outcome(table: &[Given], product: u32, given: Given) -> bool
     ensures { IsTrue result ↔ (slice_get table.now product ≡ Some given) }
 {
@@ -40,26 +40,26 @@ fn has_outcome(table: &[Given], product: u32, given: Given) -> bool
     }
 }
 
-/// Whether two states are the same.
+// Whether two states are the same.
 fn is_same(state: Option<u32>, other: Option<u32>) -> bool
     ensures { IsTrue result ↔ (state ≡ other) }
 {
     state == other
 }
 
-/// Claims a region, which takes this state. Where it takes another, the answer is false, and the board is of no further use.
+// Claims a region, which takes this state. Where it takes another, the answer is false, and the board is of no further use.
 fn claim(board: &mut Board, by: u32, plan: Plan, state: Option<u32>, node: Node<Noted>) -> bool
     requires { CertifiedAs board.old.job.grid plan }
     ensures joined { IsTrue result → Allowed board.old.job (past board.old) (claim_of plan state) × (board.new ≡ with_entry board.old by (claim_of plan state)) }
     ensures barred { IsFalse result → Allowed board.old.job (past board.old) (claim_of plan state) → ⊥ }
 {
-    let Ok(claimed) = board.claim(by, plan, node) else {
-        return false;
-    };
-    is_same(claimed.state, state)
+    match board.claim(by, plan, node) {
+        Ok(claimed) => is_same(claimed.state, state),
+        Err(_refused) => false,
+    }
 }
 
-/// Settles a product, which flips or not as it is said.
+// Settles a product, which flips or not as it is said.
 fn settle(board: &mut Board, by: u32, product: u32, flip: bool, node: Node<Noted>) -> bool
     ensures joined { IsTrue result → Allowed board.old.job (past board.old) (SettleEntry product flip) × (board.new ≡ with_entry board.old by (SettleEntry product flip)) }
     ensures barred { IsFalse result → Allowed board.old.job (past board.old) (SettleEntry product flip) → ⊥ }
@@ -76,8 +76,8 @@ fn settle(board: &mut Board, by: u32, product: u32, flip: bool, node: Node<Noted
     }
 }
 
-/// Whether an entry may stand behind the board's history and agrees with the table. The board then has it; else it is of no
-/// further use.
+// Whether an entry may come after the board's history and agrees with the table. The board then has it; else it is of no
+// further use.
 fn enter(alloc: Global, board: &mut Board, table: &[Given], noted: Noted) -> Result<bool, Memory>
     requires { (v : Version) × IsShaped v noted.entry }
     ensures joined { IfOk result (λ joins. IsTrue joins → Joins table.now board.old noted board.new) }

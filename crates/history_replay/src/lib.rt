@@ -1,20 +1,20 @@
 //! Schedules read back: a text is taken where it is that of a legal complete history, and else its first bad line is named.
 #![tactic(auto)]
 
-ghost use Rattle.std.specs.Prelude.{◌≡◌, ℕ, List, [], IfOk};
+ghost use Rattle.std.specs.Prelude.{◌≡◌, ℕ, List, [], IfOk, IfSome, IfNone};
 ghost use Rattle.source_model.specs.Circuits.{WellFormed, RightKinds};
 ghost use Rattle.source_model.specs.Statics.{statics};
 ghost use Rattle.board_core.specs.declared.Noted.{Noted};
 ghost use Rattle.board_core.specs.Position.{with_history};
 ghost use Rattle.schedule_text.specs.Text.{Version};
 ghost use Rattle.history_replay.specs.Replay.{IsTextOf, FirstBad, OneFirstBad, LegalOrBad, asked};
+ghost use Rattle.history_replay.specs.declared.Verdict.TheVariants.{Legal};
 ghost use Rattle.history_replay.specs.Answers.{IsVerdict};
+ghost use Rattle.history_replay.specs.Laws.{SchedulesAreLegal};
 
 mod close;
 mod enter;
 mod lines;
-#[cfg(test)]
-mod tests;
 
 use board_core::Board;
 use close::close;
@@ -38,12 +38,12 @@ pub enum Verdict {
 /// Reads a schedule of version 1 or 2 against a new board of the circuit's static products and a table of outcomes.
 ///
 /// The text is legal exactly where it is that of a history that is legal on the board and complete for the table, with the
-/// bits that the circuit's own run leaves. The board then has that history, with the numbers of its passes, which are 0
+/// bits that the circuit's own run leaves. The board then has that history, with the numbers of its workers, which are 0
 /// in version 1. Each claim's region is certified anew from its cells.
 ///
 /// # Errors
 ///
-/// `Memory` where memory is wanting.
+/// `Memory` where memory ran out.
 pub fn verify(
     alloc: Global,
     board: Board,
@@ -80,17 +80,37 @@ fn replay(
     requires table { RightKinds circuit.now.items outcomes.now.given }
     ensures { IfOk result (IsVerdict (asked circuit.now board.job outcomes.now.given) text.now) }
 {
-    let Some(header) = read_header(text) else {
-        return Ok(Verdict::Illegal { line: 1 });
-    };
     let mut board = board;
+    match first_bad(alloc, &mut board, circuit, outcomes, text)? {
+        Some(line) => Ok(Verdict::Illegal { line }),
+        None => Ok(Verdict::Legal(board)),
+    }
+}
+
+// The first bad line of a text. Where it has none, the board has its history; else the board is of no further use.
+fn first_bad(
+    alloc: Global,
+    board: &mut Board,
+    circuit: &Circuit,
+    outcomes: &Outcomes,
+    text: &[u8],
+) -> Result<Option<u32>, Memory>
+    requires circuit { WellFormed circuit.now }
+    requires new { board.old.history ≡ [] }
+    requires products { board.old.job.products ≡ statics circuit.now.items }
+    requires table { RightKinds circuit.now.items outcomes.now.given }
+    ensures bad { let q = asked circuit.now board.old.job outcomes.now.given in
+        IfOk result (λ f. IfSome f (FirstBad q text.now)) }
+    ensures legal { let q = asked circuit.now board.old.job outcomes.now.given in
+        IfOk result (λ f. IfNone f (IsVerdict q text.now (Legal board.new))) }
+{
+    let Some(header) = read_header(text) else {
+        return Ok(Some(1));
+    };
     let table = outcomes.given.as_slice();
-    match enter_all(alloc, &mut board, table, header.version, text, header.next)? {
-        Entered::Bad { line } => Ok(Verdict::Illegal { line }),
-        Entered::UpTo { at } => match close(alloc, &board, circuit, text, at)? {
-            Some(line) => Ok(Verdict::Illegal { line }),
-            None => Ok(Verdict::Legal(board)),
-        },
+    match enter_all(alloc, board, table, header.version, text, header.next)? {
+        Entered::Bad { line } => Ok(Some(line)),
+        Entered::UpTo { at } => close(alloc, board, circuit, text, at),
     }
 }
 
@@ -102,4 +122,9 @@ pub fn law_one_first_bad()
 /// No text of a legal complete history has a bad line.
 pub fn law_legal_or_bad()
     ensures { LegalOrBad }
+{}
+
+/// A schedule is legal: read against its own circuit, layout and outcomes it is the text of its history.
+pub fn law_schedules_are_legal()
+    ensures { SchedulesAreLegal }
 {}

@@ -22,7 +22,7 @@ pub(crate) struct Header {
     pub(crate) next: usize,
 }
 
-/// Whether two lines are the same.
+// Whether two lines are the same.
 fn is_same(line: &[u8], other: &[u8]) -> bool
     ensures { IsTrue result ↔ (line.now ≡ other.now) }
 {
@@ -64,14 +64,14 @@ pub(crate) fn read_header(text: &[u8]) -> Option<Header>
     None
 }
 
-/// Whether a byte is a bit's digit.
+// Whether a byte is a bit's digit.
 fn is_digit(byte: u8, bit: bool) -> bool
     ensures { IsTrue result ↔ (byte ∷ [] ≡ digit bit) }
 {
     byte == if bit { b'1' } else { b'0' }
 }
 
-/// Whether a word spells bits from the first on, the highest index first.
+// Whether a word spells bits from the first on, the highest index first.
 fn spells(word: &[u8], bits: &[bool], first: usize, size: usize) -> bool
     requires { first + size ≤ length bits.now }
     ensures { IsTrue result ↔ (word.now ≡ digits (bit_in bits.now) first size) }
@@ -87,14 +87,14 @@ fn spells(word: &[u8], bits: &[bool], first: usize, size: usize) -> bool
     true
 }
 
-/// What is behind the beginning of a line.
+// What comes after the beginning of a line.
 fn behind<'a>(line: &'a [u8], prefix: &[u8]) -> Option<&'a [u8]>
     ensures { MatchOption result ((rest : List ℕ) → line.now ≡ prefix.now ++ rest → ⊥) (λ rest. line.now ≡ prefix.now ++ rest.now) }
 {
     line.strip_prefix(prefix)
 }
 
-/// The digits of a line of bits, behind the register's name.
+// The digits of a line of bits, after the register's name.
 fn behind_name<'a>(line: &'a [u8], name: &[u8]) -> Option<&'a [u8]>
     ensures { MatchOption result ((word : List ℕ) → line.now ≡ (codes "bits " ++ name.now ++ codes " ") ++ word → ⊥) (λ word. line.now ≡ (codes "bits " ++ name.now ++ codes " ") ++ word.now) }
 {

@@ -22,7 +22,7 @@ pub record IsFresh (fails : List Fail) (f : ℕ) (x : Factory) : Type 0 where
   pub own : x.own.items ≡ []
   pub runs : HasRuns fails f x
 
--- the factory behind entries that have their slices
+-- the factory after entries that have their slices
 pub record FactoryIs (j : Job) (done : List Sliced) (f : ℕ) (x : Factory) : Type 0 where
   pub steps : x.steps ≡ steps_of f (steps (entries_of done))
   pub last : x.last ≡ greatest_of (is_step_of f) done

@@ -27,7 +27,7 @@ aligned text = replicate (6 - length text) 32 ++ text
 abbrev pub cell_text : Grid → (ℕ → Option ℕ) → ℕ → List ℕ
 cell_text g shown c = aligned (shown_text (shown c) (tile_of (slice_get g.sites c)))
 
--- a line feed behind the last cell of a row
+-- a line feed after the last cell of a row
 abbrev pub row_end : Grid → ℕ → List ℕ
 row_end g c = if (c + 1) % g.columns == 0 then 10 ∷ [] else []
 

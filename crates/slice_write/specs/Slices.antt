@@ -1,4 +1,4 @@
--- The slice of each entry of a history: the least that leaves it behind all that it needs.
+-- The slice of each entry of a history: the least that leaves it after all that it needs.
 use Rattle.std.specs.Prelude.{ℕ, zero, suc, Bool, true, false, ◌+◌, ◌-◌, ◌%◌, ◌==◌, ◌&&◌, ◌||◌, not, max, nat_lt, if◌then◌else◌, slice_get, slice_index_or, List, [], ◌∷◌, ◌++◌, map, filter, length, Option, Some, None}
 use Rattle.pauli_product.specs.declared.Letter.TheVariants as letter
 use Rattle.pauli_product.specs.declared.Letter.{Letter}
@@ -116,7 +116,7 @@ entries_of done = map (λ e. e.0) done
 abbrev pub made_in : List Fail → History → List ℕ
 made_in fails h = makers_of fails (steps h)
 
--- the slice of the first entry behind which the state is made, behind these entries
+-- the slice of the first entry after which the state is made, after these entries
 abbrev pub made_from : List Fail → ℕ → History → List Sliced → ℕ
 made_from fails s before [] = 0
 made_from fails s before (e ∷ es) =
@@ -156,7 +156,7 @@ step_slice j done f =
     1 + max (greatest_of (is_step_of f) done)
     (if steps_of f (steps (entries_of done)) % 11 == 0 then room_made (store_in j.grid.sites f) (states_made_by j.fails f done) done else 0)
 
--- the slice of an entry behind these
+-- the slice of an entry after these
 unfoldable pub slice_of : Job → List Sliced → Entry → ℕ
 slice_of j done (Claim p axis through state cells) =
     1 + max (state_made j.fails state done) (max (greatest_of (shares_cell j.grid axis through cells) done) (greatest_of (clashes_with j.products p) done))

@@ -1,4 +1,4 @@
--- What the tables hold behind a history, so that no entry goes through all that came before it.
+-- What the tables hold after a history, so that no entry goes through all that came before it.
 use Rattle.std.specs.Prelude.{◌≡◌, ℕ, ◌+◌, ◌^◌, ◌<◌, ◌≤◌, map, if◌then◌else◌, List, [], ◌∷◌, ◌++◌, length, All, slice_set, slice_index, slice_index_or, Option, IfSome}
 use Rattle.std.specs.List.Sorted.{IsNonDecreasingBy}
 use Rattle.source_model.specs.declared.Static.{Static}
@@ -18,7 +18,7 @@ use Rattle.slice_write.specs.Factories.{FactoryIs, Steps, makes}
 abbrev pub job : List Static → Grid → List Fail → Job
 job products grid fails = record { products = products; grid = grid; fails = fails }
 
--- the tables behind entries that have their slices
+-- the tables after entries that have their slices
 pub record Keeps (j : Job) (done : List Sliced) (t : Ledger) : Type 0 where
   pub bound : greatest (map (λ e. e.1) done) ≤ length done
   pub size : length t.cells.items ≡ length j.grid.sites
@@ -43,7 +43,7 @@ Fits j done (Release p) = Unit {0}
 Fits j done (Step f) = f < 16
 Fits j done (Settle p flip) = p < length j.products
 
--- the tables stand behind entries to which this one may be added
+-- the tables have entries to which this one may be added
 abbrev pub Awaits : List Static → Grid → Ledger → Entry → Type 0
 Awaits products grid t e =
     (fails : List Fail) × (done : List Sliced) × Keeps (job products grid fails) done t × Fits (job products grid fails) done e × (length done + 1 < 2 ^ 32)

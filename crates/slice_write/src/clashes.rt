@@ -10,7 +10,7 @@ use crate::placed::Placed;
 use patch_base::Memory;
 use source_model::{Kind, Static};
 
-/// Whether one product reads a bit that the other writes.
+// Whether one product reads a bit that the other writes.
 fn reads_from(reader: Kind, writer: Kind) -> bool
     ensures { result ≡ reads_from_kind reader writer }
 {
@@ -53,7 +53,7 @@ pub(crate) fn latest_clash(products: &[Static], placed: &[Placed], product: u32,
     floor
 }
 
-/// Places one more product, behind those of its slice.
+/// Places one more product, after those of its slice.
 pub(crate) fn place(placed: &mut Vec<Placed>, more: Placed) -> Result<(), Memory>
     requires { IsNonDecreasingBy (λ x. x.slice) placed.old.items }
     ensures inserted { OnOk result (Inserts placed.old.items placed.new.items more) }

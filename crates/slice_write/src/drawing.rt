@@ -21,7 +21,7 @@ pub(crate) struct Drawing {
     pub(crate) starts: Vec<usize>,
 }
 
-/// A number at the right of six columns.
+// A number at the right of six columns.
 fn six_columns(n: u32) -> [u8; 6]
     requires { n < 1000000 }
     ensures { result ≡ aligned (decimal n) }
@@ -33,7 +33,7 @@ fn six_columns(n: u32) -> [u8; 6]
     six
 }
 
-/// Writes six bytes from a place on.
+// Writes six bytes from a place on.
 fn write_at(bytes: &mut [u8], start: usize, six: &[u8; 6])
     requires { start + 6 ≤ length bytes.old }
     ensures { bytes.new ≡ take start bytes.old ++ (six.now ++ drop (start + 6) bytes.old) }

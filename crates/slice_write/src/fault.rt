@@ -8,7 +8,7 @@ use patch_base::{Failed, Memory};
 /// Why slices weren't written.
 #[derive(Clone, Copy, Debug, PartialEq, Eq)]
 pub enum SliceFault {
-    /// Want of memory.
+    /// Out of memory.
     Memory,
     /// The sink failed.
     Failed,

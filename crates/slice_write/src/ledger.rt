@@ -59,7 +59,7 @@ impl Ledger {
         })
     }
 
-    /// The slice of an entry behind those that the ledger has. The ledger then has it too.
+    /// The slice of an entry that comes after those that the ledger has. The ledger then has it too.
     pub(crate) fn slice(
         &mut self,
         products: &[Static],
@@ -88,8 +88,8 @@ impl Ledger {
         }
     }
 
-    /// Takes the cells of a claim in hand. The greatest slice among the claims that share one of them and the step that
-    /// made the state.
+    // Takes the cells of a claim in hand. The greatest slice among the claims that share one of them and the step that
+    // made the state.
     fn floor(
         &mut self,
         layout: &Layout,
@@ -113,7 +113,7 @@ impl Ledger {
         Ok(greatest_at(&self.cells, &self.held).max(made))
     }
 
-    /// Notes a claim of the cells in hand, in the least slice behind `floor` and all that doesn't commute with the product.
+    // Notes a claim of the cells in hand, in the least slice after `floor` and all that doesn't commute with the product.
     fn claim(
         &mut self,
         products: &[Static],
@@ -187,7 +187,7 @@ fn factories(alloc: Global, fails: &[Fail]) -> Result<Vec<Factory>, Memory>
     Ok(factories)
 }
 
-/// The store of a factory, and 0 where there is no such factory.
+// The store of a factory, and 0 where there is no such factory.
 fn store(layout: &Layout, factory: u32) -> u32
     ensures { result ≡ store_in layout.now.sites factory }
 {

@@ -20,8 +20,6 @@ mod numbers;
 mod page;
 mod pen;
 mod placed;
-#[cfg(test)]
-mod tests;
 mod text;
 
 use board_core::Board;
@@ -33,11 +31,11 @@ use pen::Pen;
 use std::alloc::Global;
 
 /// The slice of each entry of a board's history. Entries of one slice can be carried out at once: an entry's slice is the
-/// least that leaves it behind all that it needs.
+/// least that leaves it after all that it needs.
 ///
 /// # Errors
 ///
-/// `Memory` where memory is wanting.
+/// `Memory` where memory ran out.
 pub fn slices(alloc: Global, board: &Board) -> Result<Vec<u32>, Memory>
     ensures { IfOk result (λ v. v.items ≡ slices_of board.now.job (past board.now)) }
 {
@@ -55,7 +53,7 @@ pub fn slices(alloc: Global, board: &Board) -> Result<Vec<u32>, Memory>
 ///
 /// # Errors
 ///
-/// `Memory` where memory is wanting, and then nothing was written. `Failed` where the sink failed, which then took a
+/// `Memory` where memory ran out, and then nothing was written. `Failed` where the sink failed, which then took a
 /// prefix of the text.
 pub fn write_slices<O: Sink>(
     alloc: Global,

@@ -68,7 +68,7 @@ impl Page {
     }
 }
 
-/// Marks cells with a product.
+// Marks cells with a product.
 fn mark(cells: &[u32], product: u32, marks: &mut Vec<Mark>) -> Result<(), Memory>
     ensures { OnOk result (marks.new.items ≡ marks.old.items ++ map (mark_of product) cells.now) }
 {

@@ -77,7 +77,7 @@ impl Pen {
         self.put(buffer.format(n).as_bytes());
     }
 
-    /// So many spaces.
+    // So many spaces.
     fn spaces(&mut self, n: usize)
         requires { length self.old + n ≤ 8192 }
         ensures { self.new ≡ self.old ++ replicate n 32 }
@@ -87,7 +87,7 @@ impl Pen {
         }
     }
 
-    /// A letter and a number, at the right of six columns.
+    // A letter and a number, at the right of six columns.
     fn aligned(&mut self, letter: u8, n: u32)
         requires { length self.old + 16 ≤ 8192 }
         ensures text { self.new ≡ self.old ++ aligned (letter ∷ decimal n) }
@@ -113,7 +113,7 @@ impl Pen {
         }
     }
 
-    /// A cell without its claims, and the end of a row behind the last cell of it.
+    /// A cell without its claims, and the end of a row after the last cell of it.
     pub(crate) fn piece(&mut self, layout: &Layout, cell: u32)
         requires room { length self.old + 17 ≤ 8192 }
         requires cell { cell < length layout.now.sites }

@@ -65,7 +65,7 @@ fn blank_pages(alloc: Global, last: u32) -> Result<Vec<Page>, Memory>
     Ok(pages)
 }
 
-/// The factories that step, each behind a space.
+// The factories that step, each after a space.
 fn put_steps(pen: &mut Pen, steps: &[bool])
     requires count { length steps.now ≡ 16 }
     requires room { length pen.old + 176 ≤ 8192 }
@@ -116,7 +116,7 @@ fn put_page<O: Sink>(
     Ok(())
 }
 
-/// The pages from 1 to the last.
+// The pages from 1 to the last.
 fn put_pages<O: Sink>(
     pen: &mut Pen,
     layout: &Layout,
