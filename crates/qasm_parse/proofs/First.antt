@@ -4,7 +4,7 @@ use Rattle.std.specs.List.{flat_map, slice_get}
 use Rattle.std.proofs.lemmas.Option.{slice_get-get_or}
 use Rattle.std.proofs.lemmas.List.{map-append, take_more}
 use Rattle.std.proofs.lemmas.List.Concat.{flat_map-append}
-use Rattle.qasm_parse.specs.declared.follow.Stop.{Stop}
+use Rattle.qasm_parse.specs.declared.stop.Stop.{Stop}
 use Rattle.qasm_parse.specs.Faults.{first_fault}
 use Rattle.qasm_parse.proofs.Lists.{map_more, next_of}
 

@@ -1,32 +1,14 @@
 -- Worked examples.
-use Rattle.std.specs.Prelude.{◌≡◌, ℕ, true, false, ◌+◌, ◌++◌, List, [], ◌∷◌, codes, length, Some, Ok, Err}
-use Rattle.qasm_lex.specs.declared.fault.FaultKind.TheVariants.{Version, Syntax, Parameters, Unsupported, Unknown, Declared, Undeclared, Index, Sizes, SameQubit}
+use Rattle.std.specs.Prelude.{◌≡◌, ℕ, true, false, ◌+◌, ◌++◌, List, [], ◌∷◌, codes, length, Some}
+use Rattle.qasm_lex.specs.declared.fault.FaultKind.TheVariants.{Unknown, Declared, Undeclared, Index, Sizes, SameQubit}
 use Rattle.qasm_lex.specs.declared.Token.{Token}
 use Rattle.qasm_lex.specs.declared.TokenKind.TheVariants.{Word}
-use Rattle.qasm_parse.specs.declared.spoken.Argument.TheVariants as arguments
+use Rattle.qasm_grammar.specs.declared.spoken.Argument.TheVariants as arguments
 use Rattle.qasm_parse.specs.declared.known.Known.{Known}
 use Rattle.qasm_parse.specs.declared.known.Meaning.TheVariants.{Quantum, Classical}
-use Rattle.qasm_parse.specs.declared.terminal.Terminal.TheVariants.{Openqasm, Name, Measure, Arrow, Cx, Open, Close, OpenBracket, Semicolon, Include, Quoted}
-use Rattle.qasm_parse.specs.Forms.{reads}
-use Rattle.qasm_parse.specs.Grammar.{one_version, statement}
 use Rattle.qasm_parse.specs.Lexed.{Lexed}
 use Rattle.qasm_parse.specs.Known.{nothing_known, gate_named, is_declared, bars_include}
 use Rattle.qasm_parse.specs.Faults.{first_fault, named_faults, call_faults, measure_faults, head_faults, qubits_pass}
-
--- what the grammar refuses, and at which token
-pub record GrammarRows : Type 0 where
-  -- a text without the version
-  pub no_version : reads one_version (Openqasm ∷ Name ∷ []) 0 ≡ Err (record { at = 1; kind = Version })
-  -- `h q[` at the end of the text
-  pub at_the_end : reads statement (Name ∷ Name ∷ OpenBracket ∷ []) 7 ≡ Err (record { at = 10; kind = Syntax })
-  -- `rz(pi/4) q[0];`
-  pub parameters : reads statement (Name ∷ Open ∷ Name ∷ Close ∷ Name ∷ Semicolon ∷ []) 0 ≡ Err (record { at = 2; kind = Parameters })
-  -- `CX(` ..
-  pub after_cx : reads statement (Cx ∷ Open ∷ []) 0 ≡ Err (record { at = 1; kind = Syntax })
-  -- `include "other.inc"`, where the semicolon is missing
-  pub other_text : reads statement (Include ∷ Quoted ∷ []) 0 ≡ Err (record { at = 1; kind = Unsupported })
-  -- `measure q -> c; ..`
-  pub measured : reads statement (Measure ∷ Name ∷ Arrow ∷ Name ∷ Semicolon ∷ Name ∷ []) 0 ≡ Ok 5
 
 -- words one after another, a token each
 abbrev pub tokens_of_words : ℕ → List (List ℕ) → List Token

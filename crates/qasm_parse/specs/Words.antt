@@ -4,12 +4,12 @@ use Rattle.std.specs.Str.{bytes_eq}
 use Rattle.qasm_lex.specs.Tokens.{is_within}
 use Rattle.qasm_lex.specs.declared.fault.CircuitFault.{CircuitFault}
 use Rattle.qasm_lex.specs.declared.fault.CircuitFault.TheVariants as circuits
-use Rattle.qasm_parse.specs.declared.follow.Stop.{Stop}
+use Rattle.qasm_parse.specs.declared.stop.Stop.{Stop}
 use Rattle.qasm_lex.specs.declared.Token.{Token}
 use Rattle.qasm_lex.specs.declared.TokenKind.{TokenKind}
 use Rattle.qasm_lex.specs.declared.TokenKind.TheVariants as kinds
-use Rattle.qasm_parse.specs.declared.terminal.Terminal.{Terminal}
-use Rattle.qasm_parse.specs.declared.terminal.Terminal.TheVariants as terminals
+use Rattle.qasm_grammar.specs.declared.terminal.Terminal.{Terminal}
+use Rattle.qasm_grammar.specs.declared.terminal.Terminal.TheVariants as terminals
 
 -- words that are no names, and stand nowhere in the grammar
 unfoldable pub is_reserved : List ℕ → Bool

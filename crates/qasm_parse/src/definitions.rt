@@ -8,15 +8,15 @@ ghost use Rattle.qasm_parse.specs.Meets.{Meets, Finds};
 ghost use Rattle.qasm_parse.specs.Faults.{repeated, informal, formal_of, body_call_faults, named_op_faults, body_faults, head_faults, gate_faults};
 ghost use Rattle.qasm_parse.specs.Behind.{gate_of, op_of, depth_of, with_gate};
 
-use crate::follow::{Fault, Stop};
+use crate::stop::{Fault, Stop};
 use crate::gates::cx;
 use crate::known::{Called, Known, Meaning};
 use crate::names::NameList;
 use crate::operands::has_twice;
 use crate::source::Source;
-use crate::spoken::BodyStatement;
-use crate::tree::{BodyOp, Callee, GateDef, Listed};
-use patch_base::{DEFINITIONS, DEPTH, FORMALS};
+use qasm_grammar::BodyStatement;
+use crate::tree::{BodyOp, Callee, GateDef};
+use patch_base::{DEFINITIONS, DEPTH, FORMALS, Listed};
 use qasm_lex::FaultKind;
 use std::alloc::Global;
 
@@ -133,14 +133,14 @@ fn body_op(
 {
     match statement {
         BodyStatement::Call { name, formals, .. } => {
-            named_op(alloc, source, known, names, *name, formals)
+            named_op(alloc, source, known, names, *name, formals.as_slice())
         }
         BodyStatement::Cx { at, formals } => {
-            let op = try_formals(alloc, source, names, *at, cx(), formals)?;
+            let op = try_formals(alloc, source, names, *at, cx(), formals.as_slice())?;
             Ok((op, 0))
         }
         BodyStatement::Barrier { formals } => {
-            formal_numbers(alloc, source, names, formals)?;
+            formal_numbers(alloc, source, names, formals.as_slice())?;
             Ok((BodyOp::Barrier, 0))
         }
     }

@@ -5,7 +5,8 @@ ghost use Rattle.qasm_parse.specs.Words.{terminal_of};
 ghost use Rattle.qasm_parse.specs.Lexed.{AllPlaced, word_at, number_at, line_of, start_of, end_of};
 ghost use Rattle.qasm_parse.specs.Pass.{terminals};
 
-use crate::terminal::{Terminal, make_terminal};
+use crate::words::make_terminal;
+use qasm_grammar::Terminal;
 use patch_base::{Memory, decimal};
 use qasm_lex::Token;
 use std::alloc::Global;

@@ -8,12 +8,12 @@ ghost use Rattle.qasm_parse.specs.Lexed.{word_at, number_at};
 ghost use Rattle.qasm_parse.specs.Behind.{behind, declared_at, with_statement, first_of};
 
 use crate::definitions::{define, find_gate};
-use crate::follow::{Fault, Stop};
+use crate::stop::{Fault, Stop};
 use crate::gates::{cx, pauli_of};
 use crate::known::{Known, Meaning, Span};
 use crate::operands::{meant, name_place, past_end, resolve, try_args};
 use crate::source::Source;
-use crate::spoken::{Argument, GateCall, Sentence};
+use qasm_grammar::{Argument, GateCall, Sentence};
 use crate::tree::{Arg, Declared, Statement};
 use patch_base::{BITS, QUBITS, REGISTERS};
 use qasm_lex::FaultKind;
@@ -140,7 +140,7 @@ fn named_call(
     ensures { Meets result (faults source.now known at (Sentence.Call call.now)) (behind source.now known at (Sentence.Call call.now)) }
 {
     let called = find_gate(source, &known, call.name)?;
-    let args = try_args(alloc, source, &known, at, called, &call.args)?;
+    let args = try_args(alloc, source, &known, at, called, call.args.as_slice())?;
     let statement = Statement::Call {
         line: source.line(at),
         gate: called.gate,
@@ -176,7 +176,7 @@ fn conditional(
             kind: FaultKind::Undeclared,
         })),
     };
-    let args = try_args(alloc, source, &known, at, called, &call.args)?;
+    let args = try_args(alloc, source, &known, at, called, call.args.as_slice())?;
     let statement = Statement::If {
         line: source.line(at),
         first: bits.first,
@@ -269,7 +269,7 @@ fn cx_call(
     source: &Source<'_>,
     known: Known,
     at: usize,
-    args: &Vec<Argument>,
+    args: &[Argument],
 ) -> Result<Known, Fault>
     ensures { Meets result (faults source.now known at (Sentence.Cx args.now)) (behind source.now known at (Sentence.Cx args.now)) }
 {
@@ -288,7 +288,7 @@ fn barrier(
     source: &Source<'_>,
     known: Known,
     at: usize,
-    args: &Vec<Argument>,
+    args: &[Argument],
 ) -> Result<Known, Fault>
     ensures { Meets result (faults source.now known at (Sentence.Barrier args.now)) (behind source.now known at (Sentence.Barrier args.now)) }
 {
@@ -344,16 +344,16 @@ pub fn try_sentence(
             formals,
             body,
             ..
-        } => define(alloc, source, known, at, *name, formals, body),
+        } => define(alloc, source, known, at, *name, formals.as_slice(), body.as_slice()),
         Sentence::Call { call } => named_call(alloc, source, known, at, call),
         Sentence::If {
             register,
             value,
             call,
         } => conditional(alloc, source, known, at, *register, *value, call),
-        Sentence::Cx { args } => cx_call(alloc, source, known, at, args),
+        Sentence::Cx { args } => cx_call(alloc, source, known, at, args.as_slice()),
         Sentence::Measure { from, to } => measure(source, known, at, *from, *to),
-        Sentence::Barrier { args } => barrier(alloc, source, known, at, args),
+        Sentence::Barrier { args } => barrier(alloc, source, known, at, args.as_slice()),
         Sentence::Reset { arg } => reset(alloc, source, known, at, *arg),
     }
 }

@@ -17,7 +17,7 @@ pub loop-arg-preserved : goal.loop-arg-preserved
 loop-arg-preserved c =
     numbered_step c.args.source.now c.args.names.now c.args.args.now c.loop-arg.numbers c.push.new.self c.loop-arg.arg-index 0 c.in-Some.place c.loop-arg-test.true c.loop-arg.invariant
     (ap (place_of c.args.names.now) (sym c.word.ensures) ∙ sym c.in-Some.ensures.value)
-    c.in_ok-push-in-Some.ensures
+    c.in_ok-push-in-Some.ensures.ok
 
 pub returns : goal.returns
 returns c =

@@ -1,7 +1,7 @@
 use Rattle.std.proofs.Common.{◌≡◌, ℕ, None, Some, List, length, refl, sym, ap, ◌∙◌, arith, get_or, take, take_all}
-use Rattle.qasm_parse.specs.declared.spoken.Argument.{Argument}
-use Rattle.qasm_parse.specs.declared.spoken.Argument.TheVariants.{Whole}
-use Rattle.qasm_parse.specs.declared.follow.Stop.{Stop}
+use Rattle.qasm_grammar.specs.declared.spoken.Argument.{Argument}
+use Rattle.qasm_grammar.specs.declared.spoken.Argument.TheVariants.{Whole}
+use Rattle.qasm_parse.specs.declared.stop.Stop.{Stop}
 use Rattle.qasm_lex.specs.declared.fault.FaultKind.TheVariants.{Undeclared}
 use Rattle.qasm_parse.specs.Lexed.{word_at}
 use Rattle.qasm_parse.specs.Known.{quantum_named}

@@ -40,7 +40,7 @@ returns c =
     let named : c.declare.new.self ≡ with_name k (word_at x c.args.name) (Classical (record { first = k.bits; size = number_at x c.args.size })) =
     c.in_ok-declare.ensures ∙ (λ i. with_name k (c.word.ensures i) (Classical (record { first = k.bits; size = size i }))) in
     let pushed : c.push.new.self ≡ k.tree.classical ++ declared_at x c.args.name k.bits (number_at x c.args.size) ∷ [] =
-    c.in_ok-push.ensures ∙ (λ i. (named i).tree.classical ++ (c.declared.ensures ∙ ap (declared_at x c.args.name k.bits) size) i ∷ []) in
+    c.in_ok-push.ensures.ok ∙ (λ i. (named i).tree.classical ++ (c.declared.ensures ∙ ap (declared_at x c.args.name k.bits) size) i ∷ []) in
     let fine : bits_pass k (number_at x c.args.size) ≡ false = neither (nat_le 64 (length c.args.known.tree.classical)) _ (ap (λ (rs : List RegisterOf). nat_le 64 (length rs)) (sym c.as_slice-registers.ensures) ∙ falls_short 64 (length c.as_slice-registers.result.now) c.if-registers.false) (ap (λ (n : ℕ). nat_lt 16384 (c.args.known.bits + n)) (sym c.in_ok-members.ensures.value.1) ∙ stays 16384 (c.args.known.bits + c.in_ok-members.members) c.if-known-members.false) in (
       first_past (register_faults x k c.args.at c.args.name c.args.size) TooMany _ c.args.at [] c.in_ok-members.ensures.value.0 fine ∙ first_none,
       λ i. declared_classical (named i) (pushed i) (size i),
