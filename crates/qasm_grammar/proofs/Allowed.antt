@@ -114,7 +114,7 @@ both_sound f g t ts on_f on_g true e a = elim (from_or (next f t ⨾ g) (next g 
   | inr a' ↦ ([], t ∷ ts, refl, ends f e, on_g a')
 ]
 
--- what is left behind a token is what is allowed behind it
+-- what is left after a token is what is allowed after it
 sound : (f : Form) (t : Terminal) (ts : List Terminal) → Allows (next f t) ts → Allows f (t ∷ ts)
 unfolding next
 sound (refused kind) t ts a = absurd a

@@ -15,9 +15,9 @@ use Rattle.qasm_grammar.specs.declared.spoken.BodyStatement.TheVariants as ops
 use Rattle.qasm_grammar.specs.declared.spoken.Sentence.{Sentence}
 use Rattle.qasm_grammar.specs.declared.spoken.Sentence.TheVariants as sentences
 use Rattle.qasm_grammar.specs.Forms.{Form, fits, done, one, must, never, either, many, optional, ◌⨾◌, ◌or◌, reads}
-use Rattle.qasm_grammar.specs.Grammar.{arg, args, names, brackets, include, register, call_of, named_call, cx_call, measure, barrier, reset, names_behind, body_call, body, bodies, gate, if_equal, statement, one_statement}
+use Rattle.qasm_grammar.specs.Grammar.{arg, args, names, brackets, include, register, call_of, named_call, cx_call, measure, barrier, reset, names_after, body_call, body, bodies, gate, if_equal, statement, one_statement}
 use Rattle.qasm_grammar.specs.Meaning.{Allows, Each, joined, ReadsTo}
-use Rattle.qasm_grammar.specs.Spelling.{Piece, Stands, fixed, given, Spells, listed, arg_text, names_text, args_text, brackets_text, register_text, call_text, names_behind_text, body_text, bodies_text, sentence_text}
+use Rattle.qasm_grammar.specs.Spelling.{Piece, Stands, fixed, given, Spells, listed, arg_text, names_text, args_text, brackets_text, register_text, call_text, names_after_text, body_text, bodies_text, sentence_text}
 use Rattle.qasm_grammar.specs.Laws.{SomeSentence}
 use Rattle.qasm_grammar.proofs.Allowed.{from_then, from_or, reads_to}
 use Rattle.qasm_grammar.proofs.Spelled.{spells_more, get_drop}
@@ -197,12 +197,12 @@ unfolding body_call
 make_body_call =
     make_map (make_then (make_given Callee) (make_then make_brackets (make_then make_names (make_fixed Semicolon)))) (λ q. ops.Call q.0 q.1.0 q.1.1.0) body_text (λ q. refl)
 
-make_body_cx : Makes BodyStatement (names_behind terminals.Cx) body_text
-unfolding names_behind
+make_body_cx : Makes BodyStatement (names_after terminals.Cx) body_text
+unfolding names_after
 make_body_cx = make_map (make_then (make_given terminals.Cx) (make_then make_names (make_fixed Semicolon))) (λ q. ops.Cx q.0 q.1.0) body_text (λ q. refl)
 
-make_body_barrier : Makes BodyStatement (names_behind terminals.Barrier) body_text
-unfolding names_behind
+make_body_barrier : Makes BodyStatement (names_after terminals.Barrier) body_text
+unfolding names_after
 make_body_barrier = make_map (make_then (make_fixed terminals.Barrier) (make_then make_names (make_fixed Semicolon))) (λ q. ops.Barrier q.1.0) body_text (λ q. refl)
 
 make_body : Makes BodyStatement body body_text

@@ -53,12 +53,12 @@ split (p ∷ ps) qs found at end s =
     let r = split ps qs found (at + 1) end s.1 in
     (r.0, (s.0, r.1), r.2)
 
--- tokens spell one value alone, and end at one place, where none of these others stands behind them
+-- tokens spell one value alone, and end at one place, where none of these others stands after them
 abbrev pub IsSole : {X : Type 0} → (X → List Piece) → List Terminal → Type 0
 IsSole {X} text others =
     (x y : X) (found : List Terminal) (at m n : ℕ) → NoneStands others found m → NoneStands others found n → Spells (text x) found at m → Spells (text y) found at n → (x ≡ y) × (m ≡ n)
 
--- a value and the token behind it
+-- a value and the token after it
 pub closed : {X : Type 0} (text : X → List Piece) (others : List Terminal) (t : Terminal) → IsSole text others → Bars t others → (x y : X) (ps qs : List Piece) (found : List Terminal) (at m n : ℕ)
     → Spells (text x ++ (fixed t ∷ ps)) found at m → Spells (text y ++ (fixed t ∷ qs)) found at n → (x ≡ y) × ((mid : ℕ) × Spells ps found mid m × Spells qs found mid n)
 closed text others t one apart x y ps qs found at m n s u =
@@ -87,11 +87,11 @@ arg_sole (arguments.Single a i) (arguments.Whole b) found at m n u v s t =
     absurd (v.0 (subst P t.1 s.1.0))
 arg_sole (arguments.Single a i) (arguments.Single b j) found at m n u v s t = (same_single a b i j (s.0.1 ∙ sym t.0.1) (s.1.1.0.1 ∙ sym t.1.1.0.1), sym s.1.1.1.1 ∙ t.1.1.1.1)
 
--- each further one of a list stands behind a comma
+-- each further one of a list stands after a comma
 abbrev pub further : {X : Type 0} → (X → List Piece) → List X → List Piece
 further text xs = flat_map (λ y. fixed Comma ∷ text y) xs
 
--- behind one of a list stands a comma, or what stands behind the list
+-- after one of a list stands a comma, or what stands after the list
 behind_one : {X : Type 0} (text : X → List Piece) (others : List Terminal) → Bars Comma others → (xs : List X) (found : List Terminal) (at m : ℕ) → NoneStands (Comma ∷ others) found m → Spells (further text xs) found at m → NoneStands others found at
 behind_one text others apart [] found at m u s =
     let P : ℕ → Type 0 = λ k. NoneStands others found k in

@@ -44,7 +44,7 @@ listed_more {X} text x xs y =
     ap (λ (ps : List Piece). text x ++ ps) (flat_map-append g xs (y ∷ []) ∙ ap (λ (ps : List Piece). flat_map g xs ++ ps) (append-nil (g y)))
     ∙ sym (append_assoc (text x) (flat_map g xs) (g y))
 
--- one more behind a comma
+-- one more after a comma
 pub listed_push : {X : Type 0} (text : X → List Piece) (xs : List X) (y : X) (found : List Terminal) (at end after : ℕ) → 0 < length xs → Spells (listed text xs) found at end → Stands Comma found end → Spells (text y) found (end + 1) after → Spells (listed text (xs ++ y ∷ [])) found at after
 listed_push text [] y found at end after lt s h t = absurd (omega arith)
 listed_push text (x ∷ xs) y found at end after lt s h t =

@@ -5,7 +5,7 @@ use Rattle.qasm_grammar.specs.declared.follow.Refusal.TheVariants.{Version, Para
 use Rattle.qasm_grammar.specs.declared.terminal.Terminal.{Terminal}
 use Rattle.qasm_grammar.specs.declared.terminal.Terminal.TheVariants.{Openqasm, Two, Qelib, Include, Qreg, Creg, Gate, Measure, Barrier, Reset, If, Cx, Name, Taken, Pauli, Whole, Quoted, Semicolon, Comma, Open, Close, OpenBrace, CloseBrace, OpenBracket, CloseBracket, Arrow, Equals, Opaque, OtherWord, Other, Callee, Word}
 use Rattle.qasm_grammar.specs.Forms.{Form, refused, done, one, must, never, both, either, many, ◌⨾◌, ◌or◌, next, may_end, at_end, reads, is_done, fits, is_next}
-use Rattle.qasm_grammar.specs.Grammar.{arg, args, names, brackets, include, register, call_of, named_call, cx_call, measure, barrier, reset, names_behind, body_call, body, bodies, gate, if_equal, statement}
+use Rattle.qasm_grammar.specs.Grammar.{arg, args, names, brackets, include, register, call_of, named_call, cx_call, measure, barrier, reset, names_after, body_call, body, bodies, gate, if_equal, statement}
 use Rattle.qasm_grammar.proofs.Steps.{own, alone, then_assoc, one_other, same_next, halt, stop_at}
 
 never_false : true ≡ false → ⊥
@@ -34,15 +34,15 @@ unfoldable begun_inside : Terminal → Form
 begun_inside Name = body_call
 begun_inside Pauli = body_call
 begun_inside Callee = body_call
-begun_inside Cx = names_behind Cx
-begun_inside Barrier = names_behind Barrier
+begun_inside Cx = names_after Cx
+begun_inside Barrier = names_after Barrier
 begun_inside Opaque = never Unsupported Opaque
 begun_inside Taken = never Unsupported Taken
 begun_inside t = refused Syntax
 
 -- a production goes on at its first token as a statement does
 statement_next : (t : Terminal) (k : Form) → next (statement ⨾ k) t ≡ next (begun t ⨾ k) t
-unfolding next may_end ◌⨾◌ ◌or◌ begun arg args names brackets include register call_of named_call cx_call measure barrier reset gate bodies body body_call names_behind if_equal statement
+unfolding next may_end ◌⨾◌ ◌or◌ begun arg args names brackets include register call_of named_call cx_call measure barrier reset gate bodies body body_call names_after if_equal statement
 statement_next Openqasm k = refl
 statement_next Two k = refl
 statement_next Qelib k = refl
@@ -77,7 +77,7 @@ statement_next Callee k = refl
 statement_next Word k = refl
 
 body_next : (t : Terminal) (k : Form) → next (body ⨾ k) t ≡ next (begun_inside t ⨾ k) t
-unfolding next may_end ◌⨾◌ ◌or◌ begun_inside names brackets body body_call names_behind
+unfolding next may_end ◌⨾◌ ◌or◌ begun_inside names brackets body body_call names_after
 body_next Openqasm k = refl
 body_next Two k = refl
 body_next Qelib k = refl
@@ -112,11 +112,11 @@ body_next Callee k = refl
 body_next Word k = refl
 
 statement_waits : (k : Form) → is_done (statement ⨾ k) ≡ false
-unfolding ◌⨾◌ ◌or◌ arg args names brackets include register call_of named_call cx_call measure barrier reset gate bodies body body_call names_behind if_equal statement
+unfolding ◌⨾◌ ◌or◌ arg args names brackets include register call_of named_call cx_call measure barrier reset gate bodies body body_call names_after if_equal statement
 statement_waits k = refl
 
 body_waits : (k : Form) → is_done (body ⨾ k) ≡ false
-unfolding ◌⨾◌ ◌or◌ names brackets body body_call names_behind
+unfolding ◌⨾◌ ◌or◌ names brackets body body_call names_after
 body_waits k = refl
 
 -- where the next token begins a production, a statement is read as that production
@@ -229,7 +229,7 @@ no_row Taken h0 h1 h2 h3 h4 h5 h6 h7 h8 h9 h10 h11 = absurd (never_false h11)
 no_row t h0 h1 h2 h3 h4 h5 h6 h7 h8 h9 h10 h11 = refl
 
 statement_ends : (k : Form) (n : ℕ) → reads (statement ⨾ k) [] n ≡ Err (stop_at n Syntax)
-unfolding may_end at_end reads ◌⨾◌ ◌or◌ arg args names brackets include register call_of named_call cx_call measure barrier reset gate bodies body body_call names_behind if_equal statement
+unfolding may_end at_end reads ◌⨾◌ ◌or◌ arg args names brackets include register call_of named_call cx_call measure barrier reset gate bodies body body_call names_after if_equal statement
 statement_ends k n = refl
 
 refused_next : (k : Form) (t : Terminal) → next (refused Syntax ⨾ k) t ≡ refused Syntax
@@ -246,13 +246,13 @@ pub body_body_call : (k : Form) (ts : List Terminal) (n : ℕ) → is_next Calle
 unfolding ◌⨾◌ body_call
 body_body_call k ts n e = reads_inside Callee body_call k ts n callee_inside refl e
 
-pub body_body_cx : (k : Form) (ts : List Terminal) (n : ℕ) → is_next Cx ts ≡ true → reads (body ⨾ k) ts n ≡ reads (names_behind Cx ⨾ k) ts n
-unfolding begun_inside ◌⨾◌ names_behind
-body_body_cx k ts n e = reads_inside Cx (names_behind Cx) k ts n (row_inside Cx refl) refl e
+pub body_body_cx : (k : Form) (ts : List Terminal) (n : ℕ) → is_next Cx ts ≡ true → reads (body ⨾ k) ts n ≡ reads (names_after Cx ⨾ k) ts n
+unfolding begun_inside ◌⨾◌ names_after
+body_body_cx k ts n e = reads_inside Cx (names_after Cx) k ts n (row_inside Cx refl) refl e
 
-pub body_body_barrier : (k : Form) (ts : List Terminal) (n : ℕ) → is_next Barrier ts ≡ true → reads (body ⨾ k) ts n ≡ reads (names_behind Barrier ⨾ k) ts n
-unfolding begun_inside ◌⨾◌ names_behind
-body_body_barrier k ts n e = reads_inside Barrier (names_behind Barrier) k ts n (row_inside Barrier refl) refl e
+pub body_body_barrier : (k : Form) (ts : List Terminal) (n : ℕ) → is_next Barrier ts ≡ true → reads (body ⨾ k) ts n ≡ reads (names_after Barrier ⨾ k) ts n
+unfolding begun_inside ◌⨾◌ names_after
+body_body_barrier k ts n e = reads_inside Barrier (names_after Barrier) k ts n (row_inside Barrier refl) refl e
 
 body_never : (s : Terminal) (k : Form) (ts : List Terminal) (n : ℕ) → alone s ≡ true → begun_inside s ≡ never Unsupported s → is_next s ts ≡ true → reads (body ⨾ k) ts n ≡ Err (stop_at n Unsupported)
 body_never s k [] n o b e = cc
@@ -279,7 +279,7 @@ no_row_inside Taken h0 h1 h2 h3 h4 = absurd (never_false h4)
 no_row_inside t h0 h1 h2 h3 h4 = refl
 
 body_ends : (k : Form) (n : ℕ) → reads (body ⨾ k) [] n ≡ Err (stop_at n Syntax)
-unfolding may_end at_end reads ◌⨾◌ ◌or◌ names brackets body body_call names_behind
+unfolding may_end at_end reads ◌⨾◌ ◌or◌ names brackets body body_call names_after
 body_ends k n = refl
 
 pub body_none : (k : Form) (ts : List Terminal) (n : ℕ) → is_next Callee ts ≡ false → is_next Cx ts ≡ false → is_next Barrier ts ≡ false → is_next Opaque ts ≡ false → is_next Taken ts ≡ false → reads (body ⨾ k) ts n ≡ Err (stop_at n Syntax)
@@ -312,11 +312,11 @@ unfolding next may_end ◌⨾◌
 many_next f g t e = ap (λ (x : Form). ((next f t ⨾ many f) ⨾ g) or x) e ∙ or_syntax ((next f t ⨾ many f) ⨾ g) ∙ then_assoc (next f t) (many f) g
 
 body_is_both : (k : Form) → body ⨾ k ≡ both body k
-unfolding ◌⨾◌ ◌or◌ names brackets body body_call names_behind
+unfolding ◌⨾◌ ◌or◌ names brackets body body_call names_after
 body_is_both k = refl
 
 body_has_more : may_end body ≡ false
-unfolding may_end ◌⨾◌ ◌or◌ names brackets body body_call names_behind
+unfolding may_end ◌⨾◌ ◌or◌ names brackets body body_call names_after
 body_has_more = refl
 
 abbrev again : Form → Form
@@ -329,7 +329,7 @@ again_next t k e =
     ∙ ap (λ (f : Form). next f t) (sym (body_is_both (again k)))
 
 again_ends : (k : Form) (n : ℕ) → reads (again k) [] n ≡ reads (body ⨾ again k) [] n
-unfolding may_end at_end reads ◌⨾◌ ◌or◌ names brackets body body_call names_behind
+unfolding may_end at_end reads ◌⨾◌ ◌or◌ names brackets body body_call names_after
 again_ends k n = refl
 
 pub bodies_go : (k : Form) (ts : List Terminal) (n : ℕ) → is_next CloseBrace ts ≡ false → reads (both (many body) (both (one CloseBrace) k)) ts n ≡ reads (body ⨾ both (many body) (both (one CloseBrace) k)) ts n
@@ -337,7 +337,7 @@ bodies_go k [] n e = again_ends k n
 bodies_go k (t ∷ ts) n e = same_next (again k) (body ⨾ again k) t ts n refl (body_waits (again k)) (again_next t k e)
 
 closing_next : (k : Form) → next (again k) CloseBrace ≡ next (both (one CloseBrace) k) CloseBrace
-unfolding next may_end ◌⨾◌ ◌or◌ names brackets body body_call names_behind
+unfolding next may_end ◌⨾◌ ◌or◌ names brackets body body_call names_after
 closing_next k = refl
 
 pub bodies_end : (k : Form) (ts : List Terminal) (n : ℕ) → is_next CloseBrace ts ≡ true → reads (both (many body) (both (one CloseBrace) k)) ts n ≡ reads (both (one CloseBrace) k) ts n

@@ -157,7 +157,7 @@ pub tokens_live : (ss : List Terminal) (k : Form) → refusal k ≡ None → ref
 tokens_live [] k r = r
 tokens_live (s ∷ ss) k r = refl
 
--- the next token that is wanted, and those behind it
+-- the next token that is wanted, and those after it
 pub next_of : (ss : List Terminal) (i : ℕ) (d : Terminal) → i < length ss → drop i ss ≡ get_or ss i d ∷ drop (i + 1) ss
 next_of ss i d lt = rw (add-one, drop-cons ss i d) refl
 

@@ -70,7 +70,7 @@ may_end (both f g) = may_end f && may_end g
 may_end (either f g) = may_end f || may_end g
 may_end (many f) = true
 
--- what is left of a form behind a token; a refusal has a kind
+-- what is left of a form after a token; a refusal has a kind
 unfoldable pub next : Form → Terminal → Form
 next (refused kind) t = refused Syntax
 next done t = refused Syntax

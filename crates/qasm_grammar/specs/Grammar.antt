@@ -46,14 +46,14 @@ barrier = one Barrier ⨾ args ⨾ one Semicolon
 unfoldable pub reset : Form
 reset = one Reset ⨾ arg ⨾ one Semicolon
 
-unfoldable pub names_behind : Terminal → Form
-names_behind word = one word ⨾ names ⨾ one Semicolon
+unfoldable pub names_after : Terminal → Form
+names_after word = one word ⨾ names ⨾ one Semicolon
 
 unfoldable pub body_call : Form
 body_call = one Callee ⨾ brackets ⨾ names ⨾ one Semicolon
 
 unfoldable pub body : Form
-body = never Unsupported Opaque or never Unsupported Taken or body_call or names_behind Cx or names_behind Barrier
+body = never Unsupported Opaque or never Unsupported Taken or body_call or names_after Cx or names_after Barrier
 
 unfoldable pub bodies : Form
 bodies = many body ⨾ one CloseBrace

@@ -37,7 +37,7 @@ abbrev pub arg_text : Argument → List Piece
 arg_text (arguments.Whole name) = given Name name ∷ []
 arg_text (arguments.Single name index) = given Name name ∷ fixed OpenBracket ∷ given Whole index ∷ fixed CloseBracket ∷ []
 
--- the first, and each further one behind a comma
+-- the first, and each further one after a comma
 abbrev pub listed : {X : Type 0} → (X → List Piece) → List X → List Piece
 listed text [] = []
 listed text (x ∷ xs) = text x ++ flat_map (λ y. fixed Comma ∷ text y) xs
@@ -57,13 +57,13 @@ register_text kind name size = fixed kind ∷ given Name name ∷ fixed OpenBrac
 abbrev pub call_text : Terminal → GateCall → List Piece
 call_text callee c = given callee c.name ∷ (brackets_text c.brackets ++ (args_text c.args ++ fixed Semicolon ∷ []))
 
-abbrev pub names_behind_text : Terminal → List ℕ → List Piece
-names_behind_text word ns = fixed word ∷ (names_text ns ++ fixed Semicolon ∷ [])
+abbrev pub names_after_text : Terminal → List ℕ → List Piece
+names_after_text word ns = fixed word ∷ (names_text ns ++ fixed Semicolon ∷ [])
 
 abbrev pub body_text : BodyStatement → List Piece
 body_text (bodies.Call name brackets formals) = given Callee name ∷ (brackets_text brackets ++ (names_text formals ++ fixed Semicolon ∷ []))
 body_text (bodies.Cx at formals) = given Cx at ∷ (names_text formals ++ fixed Semicolon ∷ [])
-body_text (bodies.Barrier formals) = names_behind_text Barrier formals
+body_text (bodies.Barrier formals) = names_after_text Barrier formals
 
 abbrev pub bodies_text : List BodyStatement → List Piece
 bodies_text bs = flat_map body_text bs

@@ -3,7 +3,7 @@
 ghost use Rattle.std.specs.Prelude.{◌≡◌, ◌≤◌, ◌<◌, ◌+◌, ◌∷◌, [], ◌++◌, length, IfOk};
 ghost use Rattle.qasm_grammar.specs.Forms.{Reads, Closes};
 ghost use Rattle.qasm_grammar.specs.Grammar as grammar;
-ghost use Rattle.qasm_grammar.specs.Spelling.{Spells, fixed, arg_text, brackets_text, args_text, names_text, names_behind_text, register_text, call_text, body_text, bodies_text, sentence_text};
+ghost use Rattle.qasm_grammar.specs.Spelling.{Spells, fixed, arg_text, brackets_text, args_text, names_text, names_after_text, register_text, call_text, body_text, bodies_text, sentence_text};
 
 use crate::follow::{Halt, Refusal, Unread, expect, is_next};
 use crate::spoken::{Argument, BodyStatement, GateCall, Sentence};
@@ -11,7 +11,7 @@ use crate::terminal::Terminal;
 use patch_base::Listed;
 use std::alloc::Global;
 
-/// Reads a register, or one of its members.
+// Reads a register, or one of its members.
 fn arg(found: &[Terminal], at: usize) -> Result<(Argument, usize), Unread>
     requires { at ≤ length found.now }
     ensures within { IfOk result (λ x. (at ≤ x.1) × (x.1 ≤ length found.now)) }
@@ -32,7 +32,7 @@ fn arg(found: &[Terminal], at: usize) -> Result<(Argument, usize), Unread>
     ))
 }
 
-/// Reads a list of registers and members.
+// Reads a list of registers and members.
 fn args(alloc: Global, found: &[Terminal], at: usize) -> Result<(Listed<Argument>, usize), Unread>
     requires { at ≤ length found.now }
     ensures within { IfOk result (λ x. (at ≤ x.1) × (x.1 ≤ length found.now)) }
@@ -50,7 +50,7 @@ fn args(alloc: Global, found: &[Terminal], at: usize) -> Result<(Listed<Argument
     Ok((read, end))
 }
 
-/// Reads brackets where they stand, and says whether they do.
+// Reads brackets where they stand, and says whether they do.
 fn brackets(found: &[Terminal], at: usize) -> Result<(bool, usize), Unread>
     requires { at ≤ length found.now }
     ensures within { IfOk result (λ x. (at ≤ x.1) × (x.1 ≤ length found.now)) }
@@ -69,7 +69,7 @@ fn brackets(found: &[Terminal], at: usize) -> Result<(bool, usize), Unread>
     Ok((true, at + 2))
 }
 
-/// Reads a register's declaration.
+// Reads a register's declaration.
 fn register(found: &[Terminal], at: usize, kind: Terminal) -> Result<usize, Unread>
     requires { at ≤ length found.now }
     ensures within { IfOk result (λ end. (at < end) × (end ≤ length found.now)) }
@@ -90,7 +90,7 @@ fn register(found: &[Terminal], at: usize, kind: Terminal) -> Result<usize, Unre
     )
 }
 
-/// Reads an include.
+// Reads an include.
 fn include(found: &[Terminal], at: usize) -> Result<(Sentence, usize), Unread>
     requires { at ≤ length found.now }
     ensures within { IfOk result (λ x. (at < x.1) × (x.1 ≤ length found.now)) }
@@ -108,7 +108,7 @@ fn include(found: &[Terminal], at: usize) -> Result<(Sentence, usize), Unread>
     Ok((Sentence::Include, end))
 }
 
-/// Reads a call of a gate by its name.
+// Reads a call of a gate by its name.
 fn gate_call(
     alloc: Global,
     found: &[Terminal],
@@ -134,7 +134,7 @@ fn gate_call(
     ))
 }
 
-/// Reads a call of a gate by its name as a statement.
+// Reads a call of a gate by its name as a statement.
 fn named_call(alloc: Global, found: &[Terminal], at: usize) -> Result<(Sentence, usize), Unread>
     requires { at ≤ length found.now }
     ensures within { IfOk result (λ x. (at < x.1) × (x.1 ≤ length found.now)) }
@@ -145,7 +145,7 @@ fn named_call(alloc: Global, found: &[Terminal], at: usize) -> Result<(Sentence,
     Ok((Sentence::Call { call }, end))
 }
 
-/// Reads a call under a condition.
+// Reads a call under a condition.
 fn if_equal(alloc: Global, found: &[Terminal], at: usize) -> Result<(Sentence, usize), Unread>
     requires { at ≤ length found.now }
     ensures within { IfOk result (λ x. (at < x.1) × (x.1 ≤ length found.now)) }
@@ -181,7 +181,7 @@ fn if_equal(alloc: Global, found: &[Terminal], at: usize) -> Result<(Sentence, u
     ))
 }
 
-/// Reads a list of names.
+// Reads a list of names.
 fn names(alloc: Global, found: &[Terminal], at: usize) -> Result<(Listed<usize>, usize), Unread>
     requires { at ≤ length found.now }
     ensures within { IfOk result (λ x. (at ≤ x.1) × (x.1 ≤ length found.now)) }
@@ -199,8 +199,8 @@ fn names(alloc: Global, found: &[Terminal], at: usize) -> Result<(Listed<usize>,
     Ok((read, end))
 }
 
-/// Reads names behind a word.
-fn names_behind(
+// Reads names after a word.
+fn names_after(
     alloc: Global,
     found: &[Terminal],
     at: usize,
@@ -208,8 +208,8 @@ fn names_behind(
 ) -> Result<(Listed<usize>, usize), Unread>
     requires { at ≤ length found.now }
     ensures within { IfOk result (λ x. (at < x.1) × (x.1 ≤ length found.now)) }
-    ensures form { Closes (λ x. x.1) (grammar.names_behind word) found.now at result }
-    ensures spelled { IfOk result (λ x. Spells (names_behind_text word x.0) found.now at x.1) }
+    ensures form { Closes (λ x. x.1) (grammar.names_after word) found.now at result }
+    ensures spelled { IfOk result (λ x. Spells (names_after_text word x.0) found.now at x.1) }
 {
     let named = expect(found, at, &[word])?;
     let (listed, closed) = names(alloc, found, named)?;
@@ -217,7 +217,7 @@ fn names_behind(
     Ok((listed, end))
 }
 
-/// Reads a call in a body.
+// Reads a call in a body.
 fn body_call(alloc: Global, found: &[Terminal], at: usize) -> Result<(BodyStatement, usize), Unread>
     requires { at ≤ length found.now }
     ensures within { IfOk result (λ x. (at < x.1) × (x.1 ≤ length found.now)) }
@@ -238,18 +238,18 @@ fn body_call(alloc: Global, found: &[Terminal], at: usize) -> Result<(BodyStatem
     ))
 }
 
-/// Reads a call of `CX` in a body.
+// Reads a call of `CX` in a body.
 fn body_cx(alloc: Global, found: &[Terminal], at: usize) -> Result<(BodyStatement, usize), Unread>
     requires { at ≤ length found.now }
     ensures within { IfOk result (λ x. (at < x.1) × (x.1 ≤ length found.now)) }
-    ensures form { Closes (λ x. x.1) (grammar.names_behind Terminal.Cx) found.now at result }
+    ensures form { Closes (λ x. x.1) (grammar.names_after Terminal.Cx) found.now at result }
     ensures spelled { IfOk result (λ x. Spells (body_text x.0) found.now at x.1) }
 {
-    let (formals, end) = names_behind(alloc, found, at, Terminal::Cx)?;
+    let (formals, end) = names_after(alloc, found, at, Terminal::Cx)?;
     Ok((BodyStatement::Cx { at, formals }, end))
 }
 
-/// Reads a barrier in a body.
+// Reads a barrier in a body.
 fn body_barrier(
     alloc: Global,
     found: &[Terminal],
@@ -257,14 +257,14 @@ fn body_barrier(
 ) -> Result<(BodyStatement, usize), Unread>
     requires { at ≤ length found.now }
     ensures within { IfOk result (λ x. (at < x.1) × (x.1 ≤ length found.now)) }
-    ensures form { Closes (λ x. x.1) (grammar.names_behind Terminal.Barrier) found.now at result }
+    ensures form { Closes (λ x. x.1) (grammar.names_after Terminal.Barrier) found.now at result }
     ensures spelled { IfOk result (λ x. Spells (body_text x.0) found.now at x.1) }
 {
-    let (formals, end) = names_behind(alloc, found, at, Terminal::Barrier)?;
+    let (formals, end) = names_after(alloc, found, at, Terminal::Barrier)?;
     Ok((BodyStatement::Barrier { formals }, end))
 }
 
-/// Reads a statement of a body.
+// Reads a statement of a body.
 fn body_statement(
     alloc: Global,
     found: &[Terminal],
@@ -302,7 +302,7 @@ fn body_statement(
     }))
 }
 
-/// Reads a body up to its closing brace.
+// Reads a body up to its closing brace.
 fn bodies(
     alloc: Global,
     found: &[Terminal],
@@ -323,7 +323,7 @@ fn bodies(
     Ok((read, end + 1))
 }
 
-/// Reads the definition of a gate.
+// Reads the definition of a gate.
 fn gate(alloc: Global, found: &[Terminal], at: usize) -> Result<(Sentence, usize), Unread>
     requires { at ≤ length found.now }
     ensures within { IfOk result (λ x. (at < x.1) × (x.1 ≤ length found.now)) }
@@ -346,7 +346,7 @@ fn gate(alloc: Global, found: &[Terminal], at: usize) -> Result<(Sentence, usize
     ))
 }
 
-/// Reads a call of `CX`.
+// Reads a call of `CX`.
 fn cx_call(alloc: Global, found: &[Terminal], at: usize) -> Result<(Sentence, usize), Unread>
     requires { at ≤ length found.now }
     ensures within { IfOk result (λ x. (at < x.1) × (x.1 ≤ length found.now)) }
@@ -359,7 +359,7 @@ fn cx_call(alloc: Global, found: &[Terminal], at: usize) -> Result<(Sentence, us
     Ok((Sentence::Cx { args: listed }, end))
 }
 
-/// Reads a barrier.
+// Reads a barrier.
 fn barrier(alloc: Global, found: &[Terminal], at: usize) -> Result<(Sentence, usize), Unread>
     requires { at ≤ length found.now }
     ensures within { IfOk result (λ x. (at < x.1) × (x.1 ≤ length found.now)) }
@@ -372,7 +372,7 @@ fn barrier(alloc: Global, found: &[Terminal], at: usize) -> Result<(Sentence, us
     Ok((Sentence::Barrier { args: listed }, end))
 }
 
-/// Reads a measurement.
+// Reads a measurement.
 fn measure(found: &[Terminal], at: usize) -> Result<(Sentence, usize), Unread>
     requires { at ≤ length found.now }
     ensures within { IfOk result (λ x. (at < x.1) × (x.1 ≤ length found.now)) }
@@ -387,7 +387,7 @@ fn measure(found: &[Terminal], at: usize) -> Result<(Sentence, usize), Unread>
     Ok((Sentence::Measure { from, to }, end))
 }
 
-/// Reads a reset.
+// Reads a reset.
 fn reset(found: &[Terminal], at: usize) -> Result<(Sentence, usize), Unread>
     requires { at ≤ length found.now }
     ensures within { IfOk result (λ x. (at < x.1) × (x.1 ≤ length found.now)) }
@@ -400,7 +400,7 @@ fn reset(found: &[Terminal], at: usize) -> Result<(Sentence, usize), Unread>
     Ok((Sentence::Reset { arg: operand }, end))
 }
 
-/// Reads the declaration of a quantum register.
+// Reads the declaration of a quantum register.
 fn qreg(found: &[Terminal], at: usize) -> Result<(Sentence, usize), Unread>
     requires { at ≤ length found.now }
     ensures within { IfOk result (λ x. (at < x.1) × (x.1 ≤ length found.now)) }
@@ -417,7 +417,7 @@ fn qreg(found: &[Terminal], at: usize) -> Result<(Sentence, usize), Unread>
     ))
 }
 
-/// Reads the declaration of a classical register.
+// Reads the declaration of a classical register.
 fn creg(found: &[Terminal], at: usize) -> Result<(Sentence, usize), Unread>
     requires { at ≤ length found.now }
     ensures within { IfOk result (λ x. (at < x.1) × (x.1 ≤ length found.now)) }

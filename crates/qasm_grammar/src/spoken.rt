@@ -9,7 +9,7 @@ pub enum Argument {
     Single { name: usize, index: usize },
 }
 
-/// A call of a gate by its name; brackets may stand behind it.
+/// A call of a gate by its name; brackets may stand after it.
 #[derive(Debug, Drop)]
 pub struct GateCall {
     pub name: usize,

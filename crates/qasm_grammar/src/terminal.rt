@@ -49,7 +49,7 @@ pub enum Terminal {
     Word,
 }
 
-/// Whether a token is a word, and none of the gates that may stand under a condition.
+// Whether a token is a word, and none of the gates that may stand under a condition.
 fn is_other_word(token: Terminal) -> bool
     ensures { result ≡ is_other_word token }
 {
