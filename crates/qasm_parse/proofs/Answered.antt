@@ -1,6 +1,7 @@
 -- Each text with its tokens has a tree or a fault.
 use Rattle.std.proofs.Common.{◌≡◌, ◌⊎◌, inl, inr, ℕ, suc, zero, ◌+◌, ◌-◌, ◌<◌, ◌≤◌, Bool, true, false, List, length, drop, Option, None, Some, Result, Ok, Err, refl, sym, ap, subst, ◌∙◌, arith}
 use Rattle.std.specs.Prelude.{nat_lt}
+use Rattle.std.proofs.lemmas.Bool.Decides.{nat_tests}
 use Rattle.std.proofs.lemmas.List.{length-map}
 use Rattle.qasm_lex.specs.declared.Token.{Token}
 use Rattle.qasm_lex.specs.declared.fault.FaultKind.{FaultKind}
@@ -22,10 +23,10 @@ use Rattle.qasm_parse.specs.Pass.{terminals, tried, Continues, Reading, HasTree,
 use Rattle.qasm_parse.specs.Laws.{TreeOrFault}
 
 nat_lt→< : (n m : ℕ) → nat_lt n m ≡ true → n < m
-nat_lt→< n m e = omega (arith, e)
+nat_lt→< n m e = grind (arith, nat_tests)
 
 at_end : (n m : ℕ) → n ≤ m → nat_lt n m ≡ false → n ≡ m
-at_end n m le e = omega (arith, le, e)
+at_end n m le e = grind (arith, nat_tests)
 
 -- reading on from a place gives something
 abbrev Goes : Lexed → Known → ℕ → Type 0

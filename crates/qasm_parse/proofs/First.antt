@@ -27,7 +27,7 @@ first_joined [] y = refl
 first_joined (None ∷ xs) y = first_joined xs y
 first_joined (Some f ∷ xs) y = refl
 
--- rules behind those that aren't broken
+-- rules after those that aren't broken
 pub first_behind : (xs ys : List (Option Stop)) → first_fault xs ≡ None → first_fault (xs ++ ys) ≡ first_fault ys
 unfolding first_fault
 first_behind [] ys e = refl

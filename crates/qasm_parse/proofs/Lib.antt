@@ -9,3 +9,4 @@ pub mod Formals
 pub mod Passing
 pub mod OneTree
 pub mod Answered
+pub mod Laws

@@ -29,7 +29,7 @@ pub any_same : (x y s n : ℕ) → list_any (λ i. x == y) (range_with_len s n) 
 any_same x y s zero = refl
 any_same x y s (suc n) = let rest = any_same x y (s + 1) n in rw rest (grind (arith, nat_tests))
 
--- all behind a place
+-- all after a place
 all_behind : {X : Type 0} (xs : List X) (n : ℕ) → take (length xs - n) (drop n xs) ≡ drop n xs
 all_behind xs n = take_all (length xs - n) (drop n xs) (omega (arith, length-drop n xs))
 

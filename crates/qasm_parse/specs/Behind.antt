@@ -32,7 +32,7 @@ gate_of x k name = unwrap_or (gate_named k (word_at x name)) cx
 abbrev pub span_named : Option Span → Span
 span_named r = unwrap_or r (record { first = 0; size = 0 })
 
--- a register has the span of its name in the text, and the numbers behind those of its kind before it
+-- a register has the span of its name in the text, and the numbers after those of its kind before it
 abbrev pub declared_at : Lexed → ℕ → ℕ → ℕ → Declared
 declared_at x name first size = record { start = start_of x name; end = end_of x name; first = first; size = size }
 
@@ -84,7 +84,7 @@ if_statement x k at register value c =
 abbrev pub measure_statement : Lexed → Known → ℕ → Argument → Argument → Statement
 measure_statement x k at from to = statements.Measure (line_of x at) (meant x (register_of x (quantum_named k) from) from) (meant x (register_of x (classical_named k) to) to)
 
--- what is known behind a statement that begins at a place
+-- what is known after a statement that begins at a place
 abbrev pub behind : Lexed → Known → ℕ → Sentence → Known
 behind x k at sentences.Include = record k { included = true }
 behind x k at (sentences.Qreg name size) = with_quantum x k name (number_at x size)

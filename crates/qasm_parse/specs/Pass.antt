@@ -21,7 +21,7 @@ use Rattle.qasm_parse.specs.Known.{nothing_known}
 use Rattle.qasm_parse.specs.Faults.{faults, first_fault}
 use Rattle.qasm_parse.specs.Behind.{behind}
 
--- what the grammar sees of a text, before the include or behind it
+-- what the grammar sees of a text, before the include or after it
 abbrev pub terminals : Lexed → Bool → List Terminal
 terminals x included = map (terminal_of included x.text) x.tokens
 
@@ -45,7 +45,7 @@ pub data Continues (x : Lexed) : Known → ℕ → Result Known Stop → Type 0 
   breaks : (k : Known) (at end : ℕ) (s : Sentence) (stop : Stop) → reads one_statement (drop at (terminals x k.included)) at ≡ Ok end → Spells (sentence_text s) (terminals x k.included) at end → tried x k at s ≡ Err stop → Continues x k at (Err stop)
   goes_on : (k next : Known) (at end : ℕ) (s : Sentence) (r : Result Known Stop) → reads one_statement (drop at (terminals x k.included)) at ≡ Ok end → Spells (sentence_text s) (terminals x k.included) at end → tried x k at s ≡ Ok next → Continues x next end r → Continues x k at r
 
--- behind the version the statements are read, with nothing known
+-- after the version the statements are read, with nothing known
 abbrev pub Behind : Lexed → Result ℕ Stop → Result Known Stop → Type 0
 Behind x (Err stop) r = r ≡ Err stop
 Behind x (Ok at) r = Continues x nothing_known at r

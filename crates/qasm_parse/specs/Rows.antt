@@ -22,7 +22,7 @@ joined (w ∷ ws) = w ++ joined ws
 abbrev pub text_of : List (List ℕ) → Lexed
 text_of ws = record { text = joined ws; tokens = tokens_of_words 0 ws }
 
--- a quantum register `q` and a classical one `c` with two members each, behind the include
+-- a quantum register `q` and a classical one `c` with two members each, after the include
 abbrev pub two : Known
 two = record {
   included = true;
@@ -51,10 +51,10 @@ pub record NameRows : Type 0 where
   pub no_gate : first_fault (named_faults (gate_named two (codes "q")) 0 (λ g. call_faults some_words two 0 g [])) ≡ Some (record { at = 0; kind = Unknown })
   -- `measure q[1] -> c;`
   pub one_into_all : first_fault (measure_faults some_words two 0 (arguments.Single 1 2) (arguments.Whole 4)) ≡ Some (record { at = 0; kind = Sizes })
-  -- a text may declare `swap` itself, before the include and behind it, but not `h` behind it
+  -- a text may declare `swap` itself, before the include and after it, but not `h` after it
   pub own_swap : is_declared two (codes "swap") ≡ false
   pub own_h : is_declared two (codes "h") ≡ true
-  -- the include a second time, behind a gate `h`, and behind a gate `swap`
+  -- the include a second time, after a gate `h`, and after a gate `swap`
   pub second_include : bars_include two ≡ true
   pub behind_h : bars_include (record nothing_known { names = codes "h" ∷ [] }) ≡ true
   pub behind_swap : bars_include (record nothing_known { names = codes "swap" ∷ [] }) ≡ false

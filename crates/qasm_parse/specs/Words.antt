@@ -24,7 +24,7 @@ starts_name b = is_within 97 122 b || b == 95
 unfoldable pub is_pauli : List ℕ → Bool
 is_pauli word = bytes_eq word (codes "x") || bytes_eq word (codes "y") || bytes_eq word (codes "z") || bytes_eq word (codes "id")
 
--- names that are taken behind the include
+-- names that are taken after the include
 unfoldable pub is_taken : List ℕ → Bool
 is_taken word = bytes_eq word (codes "u1") || bytes_eq word (codes "u2") || bytes_eq word (codes "u3") || bytes_eq word (codes "rx") || bytes_eq word (codes "ry") || bytes_eq word (codes "rz") || bytes_eq word (codes "cu1") || bytes_eq word (codes "cu3") || bytes_eq word (codes "crz") || bytes_eq word (codes "ch")
 

@@ -20,7 +20,7 @@ use patch_base::{DEFINITIONS, DEPTH, FORMALS, Listed};
 use qasm_lex::FaultKind;
 use std::alloc::Global;
 
-/// The formal names of a definition, none of them twice.
+// The formal names of a definition, none of them twice.
 fn formal_names(alloc: Global, source: &Source<'_>, formals: &[usize]) -> Result<NameList, Fault>
     ensures { Meets result (repeated source.now [] formals.now) (map (word_at source.now) formals.now) }
 {
@@ -40,7 +40,7 @@ fn formal_names(alloc: Global, source: &Source<'_>, formals: &[usize]) -> Result
     Ok(names)
 }
 
-/// The numbers of the formal names that are the arguments of a call.
+// The numbers of the formal names that are the arguments of a call.
 fn formal_numbers(
     alloc: Global,
     source: &Source<'_>,
@@ -63,7 +63,7 @@ fn formal_numbers(
     Ok(numbers)
 }
 
-/// Tries a call of a known gate in a body, in a statement that begins at a place.
+// Tries a call of a known gate in a body, in a statement that begins at a place.
 fn try_formals(
     alloc: Global,
     source: &Source<'_>,
@@ -101,7 +101,7 @@ fn try_formals(
     })
 }
 
-/// A call of a gate by its name in a body, and the gate's depth.
+// A call of a gate by its name in a body, and the gate's depth.
 fn named_op(
     alloc: Global,
     source: &Source<'_>,
@@ -119,7 +119,7 @@ fn named_op(
     Ok((op, called.depth))
 }
 
-/// A statement of a body, and the depth of the gate that it calls.
+// A statement of a body, and the depth of the gate that it calls.
 fn body_op(
     alloc: Global,
     source: &Source<'_>,
@@ -166,7 +166,7 @@ fn greater(one: u32, other: u32) -> u32
     if one < other { other } else { one }
 }
 
-/// A body, and the greatest depth of the gates that it calls.
+// A body, and the greatest depth of the gates that it calls.
 fn body_ops(
     alloc: Global,
     source: &Source<'_>,
@@ -188,14 +188,14 @@ fn body_ops(
     Ok((ops, deepest))
 }
 
-/// Whether a definition with this number of formal names can't stand behind this number of definitions.
+// Whether a definition with this number of formal names can't stand after this number of definitions.
 fn too_many(defined: usize, formals: usize) -> bool
     ensures { result ≡ (nat_le 1024 defined || nat_lt 64 formals) }
 {
     defined >= DEFINITIONS as usize || formals > FORMALS as usize
 }
 
-/// Tries the head of a definition that begins at a place, and gives its formal names.
+// Tries the head of a definition that begins at a place, and gives its formal names.
 fn head(
     alloc: Global,
     source: &Source<'_>,

@@ -109,7 +109,7 @@ fn larger_built_in(name: &[u8]) -> Option<Called>
     None
 }
 
-/// Whether a text may declare a name itself, though the include makes it known.
+// Whether a text may declare a name itself, though the include makes it known.
 #[tactic(auto, unfolding(crate::specs::Gates::may_be_own))]
 fn may_be_own(name: &[u8]) -> bool
     ensures { result ≡ may_be_own name.now }

@@ -169,7 +169,7 @@ impl Known {
         self.names.find(name).is_some() || (self.included && is_barred(name))
     }
 
-    /// Whether an include can't stand behind what is known.
+    /// Whether an include can't stand after what is known.
     pub fn bars_include(&self) -> bool
         ensures { result ≡ bars_include self.now }
     {

@@ -37,7 +37,7 @@ pub use stop::Stop;
 pub use tree::{Arg, BodyOp, Callee, Declared, Gate1, Gate2, GateDef, Statement, Tree};
 use trying::try_sentence;
 
-/// What the grammar sees of a text, where an include may have been read since it was last asked.
+// What the grammar sees of a text, where an include may have been read since it was last asked.
 fn refreshed(
     alloc: Global,
     source: &Source<'_>,
@@ -54,7 +54,7 @@ fn refreshed(
     source.terminals(alloc, included)
 }
 
-/// Reads a text from its tokens, and gives all that its statements make known.
+// Reads a text from its tokens, and gives all that its statements make known.
 fn read(alloc: Global, source: &Source<'_>) -> Result<Known, Fault>
     ensures { ReadsAll source.now result }
 {

@@ -38,7 +38,7 @@ impl<'t> Source<'t> {
         Source { text, tokens }
     }
 
-    /// What the grammar sees of the tokens, before the include or behind it.
+    /// What the grammar sees of the tokens, before the include or after it.
     pub fn terminals(&self, alloc: Global, included: bool) -> Result<Vec<Terminal>, Memory>
         ensures { IfOk result (λ v. v.items ≡ terminals self.now included) }
     {

@@ -11,13 +11,28 @@ use qasm_lex::{Token, TokenKind};
 fn is_reserved(word: &[u8]) -> bool
     ensures { result ≡ is_reserved word.now }
 {
-    word == b"pi".as_slice()
-        || word == b"sin".as_slice()
-        || word == b"cos".as_slice()
-        || word == b"tan".as_slice()
-        || word == b"exp".as_slice()
-        || word == b"ln".as_slice()
-        || word == b"sqrt".as_slice()
+    if word == b"pi".as_slice() {
+        return true;
+    }
+    if word == b"sin".as_slice() {
+        return true;
+    }
+    if word == b"cos".as_slice() {
+        return true;
+    }
+    if word == b"tan".as_slice() {
+        return true;
+    }
+    if word == b"exp".as_slice() {
+        return true;
+    }
+    if word == b"ln".as_slice() {
+        return true;
+    }
+    if word == b"sqrt".as_slice() {
+        return true;
+    }
+    false
 }
 
 #[tactic(auto, unfolding(crate::specs::Words::starts_name))]
@@ -42,19 +57,40 @@ fn is_pauli(word: &[u8]) -> bool
 pub fn is_taken(word: &[u8]) -> bool
     ensures { result ≡ is_taken word.now }
 {
-    word == b"u1".as_slice()
-        || word == b"u2".as_slice()
-        || word == b"u3".as_slice()
-        || word == b"rx".as_slice()
-        || word == b"ry".as_slice()
-        || word == b"rz".as_slice()
-        || word == b"cu1".as_slice()
-        || word == b"cu3".as_slice()
-        || word == b"crz".as_slice()
-        || word == b"ch".as_slice()
+    if word == b"u1".as_slice() {
+        return true;
+    }
+    if word == b"u2".as_slice() {
+        return true;
+    }
+    if word == b"u3".as_slice() {
+        return true;
+    }
+    if word == b"rx".as_slice() {
+        return true;
+    }
+    if word == b"ry".as_slice() {
+        return true;
+    }
+    if word == b"rz".as_slice() {
+        return true;
+    }
+    if word == b"cu1".as_slice() {
+        return true;
+    }
+    if word == b"cu3".as_slice() {
+        return true;
+    }
+    if word == b"crz".as_slice() {
+        return true;
+    }
+    if word == b"ch".as_slice() {
+        return true;
+    }
+    false
 }
 
-/// The first byte, or 0.
+// The first byte, or 0.
 fn first_byte(word: &[u8]) -> u8
     ensures { result ≡ slice_index word.now 0 }
 {
@@ -177,7 +213,7 @@ fn quoted_terminal(quoted: &[u8]) -> Terminal
     }
 }
 
-/// What the grammar sees of a token, before the include or behind it.
+/// What the grammar sees of a token, before the include or after it.
 #[tactic(auto, unfolding(crate::specs::Words::terminal_of, crate::specs::Words::kind_terminal))]
 pub fn make_terminal(text: &[u8], token: &Token, included: bool) -> Terminal
     requires { IsPlaced text.now token.now }

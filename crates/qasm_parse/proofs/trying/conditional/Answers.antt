@@ -81,6 +81,6 @@ returns c =
     let bits : c.in-Some.bits ≡ span_named (classical_named k (word_at x c.args.register)) = ap span_named (sym found) in
     let gate : c.pauli_of.result ≡ pauli_of (word_at x call.name) = c.pauli_of.ensures ∙ ap pauli_of c.word-word.ensures in
     let arg : c.first_arg.result ≡ first_of (all_meant x (quantum_named k) call.args) =
-    c.first_arg.ensures ∙ ap first_of (c.as_slice.ensures ∙ c.in_ok-args.ensures.1 ∙ ap (all_meant x (quantum_named k)) c.as_slice.ensures) in
+    c.first_arg.ensures ∙ ap first_of (c.as_slice-2.ensures ∙ c.in_ok-args.ensures.1 ∙ ap (all_meant x (quantum_named k)) c.as_slice.ensures) in
     only_meets c.added.result (with_statement k (statements.If c.line.result c.in-Some.bits.first c.in-Some.bits.size c.number.result c.pauli_of.result c.first_arg.result)) (with_statement k (if_statement x k c.args.at c.args.register c.args.value call)) (if_faults x k c.args.at c.args.register call) (e ∙ c.in_ok-args.ensures.0)
     (λ i. with_statement k (statements.If (c.line.ensures i) (bits i).first (bits i).size (c.number.ensures i) (gate i) (arg i))) c.added.ensures
