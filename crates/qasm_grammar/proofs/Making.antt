@@ -1,5 +1,5 @@
 -- Tokens that the grammar allows as a statement spell one.
-use Rattle.std.proofs.Common.{◌≡◌, ◌<◌, ◌≤◌, inl, inr, ℕ, suc, zero, ◌+◌, Bool, true, false, List, [], ◌∷◌, ◌++◌, Option, None, length, take, drop, Some, Ok, refl, sym, ap, subst, ◌∙◌, arith, append-nil}
+use Rattle.std.proofs.Common.{◌≡◌, ◌<◌, ◌≤◌, inl, inr, ℕ, suc, zero, ◌+◌, Bool, true, false, List, [], ◌∷◌, ◌++◌, Option, None, length, take, drop, Some, refl, sym, ap, subst, ◌∙◌, arith, append-nil}
 use Rattle.std.specs.List.{slice_get, flat_map}
 use Rattle.std.proofs.lemmas.List.{drop-drop, length-drop}
 use Rattle.qasm_grammar.specs.declared.follow.Refusal.{Refusal}
@@ -14,10 +14,10 @@ use Rattle.qasm_grammar.specs.declared.spoken.BodyStatement.{BodyStatement}
 use Rattle.qasm_grammar.specs.declared.spoken.BodyStatement.TheVariants as ops
 use Rattle.qasm_grammar.specs.declared.spoken.Sentence.{Sentence}
 use Rattle.qasm_grammar.specs.declared.spoken.Sentence.TheVariants as sentences
-use Rattle.qasm_grammar.specs.Forms.{Form, fits, done, one, must, never, either, many, optional, ◌⨾◌, ◌or◌, reads}
+use Rattle.qasm_grammar.specs.Forms.{Form, fits, done, one, must, never, either, many, optional, ◌⨾◌, ◌or◌}
 use Rattle.qasm_grammar.specs.Grammar.{arg, args, names, brackets, include, register, call_of, named_call, cx_call, measure, barrier, reset, names_after, body_call, body, bodies, gate, if_equal, statement, one_statement}
-use Rattle.qasm_grammar.specs.Meaning.{Allows, Each, joined, ReadsTo}
-use Rattle.qasm_grammar.specs.Spelling.{Piece, Stands, fixed, given, Spells, listed, arg_text, names_text, args_text, brackets_text, register_text, call_text, names_after_text, body_text, bodies_text, sentence_text}
+use Rattle.qasm_grammar.specs.Meaning.{Allows, Each, joined}
+use Rattle.qasm_grammar.specs.Spelling.{Piece, Stands, fixed, given, Spells, listed, arg_text, names_text, args_text, brackets_text, register_text, call_text, body_text, sentence_text}
 use Rattle.qasm_grammar.specs.Laws.{SomeSentence}
 use Rattle.qasm_grammar.proofs.Allowed.{from_then, from_or, reads_to}
 use Rattle.qasm_grammar.proofs.Spelled.{spells_more, get_drop}

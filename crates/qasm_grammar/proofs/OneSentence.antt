@@ -1,9 +1,8 @@
 -- Two statements that the same tokens spell are one.
-use Rattle.std.proofs.Common.{◌≡◌, ℕ, ◌+◌, Bool, true, List, [], ◌∷◌, ◌++◌, refl, sym, ap, subst, ◌∙◌, append_assoc}
+use Rattle.std.proofs.Common.{◌≡◌, ℕ, ◌+◌, true, List, [], ◌∷◌, ◌++◌, refl, sym, ap, subst, ◌∙◌, append_assoc}
 use Rattle.qasm_grammar.specs.declared.terminal.Terminal.{Terminal}
 use Rattle.qasm_grammar.specs.declared.terminal.Terminal.TheVariants as terminals
 use Rattle.qasm_grammar.specs.declared.terminal.Terminal.TheVariants.{Callee, CloseBrace, OpenBrace, Semicolon, Arrow, Name, Pauli}
-use Rattle.qasm_grammar.specs.declared.spoken.Argument.{Argument}
 use Rattle.qasm_grammar.specs.declared.spoken.GateCall.{GateCall}
 use Rattle.qasm_grammar.specs.declared.spoken.BodyStatement.{BodyStatement}
 use Rattle.qasm_grammar.specs.declared.spoken.BodyStatement.TheVariants as bodies

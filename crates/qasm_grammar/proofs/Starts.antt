@@ -1,5 +1,5 @@
 -- The token that a statement begins with says which it is.
-use Rattle.std.proofs.Common.{◌≡◌, ℕ, Bool, true, false, cond, List, [], ◌∷◌, Ok, Err, None, refl, sym, ap, ◌∙◌}
+use Rattle.std.proofs.Common.{◌≡◌, ℕ, Bool, true, false, cond, List, [], ◌∷◌, Err, refl, sym, ap, ◌∙◌}
 use Rattle.qasm_grammar.specs.declared.follow.Refusal.{Refusal}
 use Rattle.qasm_grammar.specs.declared.follow.Refusal.TheVariants.{Version, Parameters, Syntax, Unsupported}
 use Rattle.qasm_grammar.specs.declared.terminal.Terminal.{Terminal}

@@ -1,5 +1,5 @@
 -- Worked examples.
-use Rattle.std.specs.Prelude.{◌≡◌, ℕ, List, [], ◌∷◌, Ok, Err}
+use Rattle.std.specs.Prelude.{◌≡◌, [], ◌∷◌, Ok, Err}
 use Rattle.qasm_grammar.specs.declared.follow.Refusal.TheVariants.{Version, Syntax, Parameters, Unsupported}
 use Rattle.qasm_grammar.specs.declared.terminal.Terminal.TheVariants.{Openqasm, Name, Measure, Arrow, Cx, Open, Close, OpenBracket, Semicolon, Include, Quoted}
 use Rattle.qasm_grammar.specs.Forms.{reads}

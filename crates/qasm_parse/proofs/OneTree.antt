@@ -1,6 +1,6 @@
 -- A text has a tree or a fault, one alone.
-use Rattle.std.proofs.Common.{◌≡◌, ℕ, false, List, [], length, drop, Result, Ok, Err, refl, sym, ap, subst, ◌∙◌, arith}
-use Rattle.std.proofs.lemmas.List.{length-map, drop_all}
+use Rattle.std.proofs.Common.{◌≡◌, ℕ, false, List, length, drop, Result, Ok, Err, refl, sym, ap, subst, ◌∙◌, arith}
+use Rattle.std.proofs.lemmas.List.{length-map}
 use Rattle.qasm_lex.specs.declared.Token.{Token}
 use Rattle.qasm_lex.specs.declared.fault.FaultKind.{FaultKind}
 use Rattle.qasm_parse.specs.declared.stop.Stop.{Stop}

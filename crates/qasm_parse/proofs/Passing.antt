@@ -1,14 +1,13 @@
 -- Reading statement by statement.
 use Rattle.std.proofs.lemmas.List.{length-map}
-use Rattle.qasm_parse.specs.Words.{terminal_of}
-use Rattle.std.proofs.Common.{◌≡◌, ℕ, Bool, false, ◌+◌, ◌-◌, ◌<◌, ◌≤◌, List, [], ◌∷◌, length, drop, Option, None, Some, Result, Ok, Err, refl, sym, ap, subst, ◌∙◌, arith}
+use Rattle.std.proofs.Common.{◌≡◌, ℕ, Bool, false, ◌-◌, ◌<◌, ◌≤◌, List, [], ◌∷◌, length, drop, Option, Result, Ok, Err, refl, sym, ap, subst, ◌∙◌, arith}
 use Rattle.qasm_parse.specs.declared.stop.Stop.{Stop}
 use Rattle.qasm_parse.specs.declared.stop.Fault.{Fault}
 use Rattle.qasm_parse.specs.declared.stop.Fault.TheVariants.{Memory, Stopping}
 use Rattle.qasm_grammar.specs.declared.spoken.Sentence.{Sentence}
 use Rattle.qasm_grammar.specs.declared.terminal.Terminal.{Terminal}
 use Rattle.qasm_parse.specs.declared.known.Known.{Known}
-use Rattle.qasm_grammar.specs.Forms.{Form, done, reads, may_end, Stopped}
+use Rattle.qasm_grammar.specs.Forms.{done, reads, may_end, Stopped}
 use Rattle.qasm_grammar.specs.Grammar.{one_version, one_statement}
 use Rattle.qasm_grammar.specs.Spelling.{Spells, sentence_text}
 use Rattle.qasm_grammar.specs.declared.follow.Halt.{Halt}
@@ -17,10 +16,10 @@ use Rattle.qasm_grammar.specs.declared.follow.Unread.TheVariants as unreads
 use Rattle.qasm_parse.specs.Lexed.{Lexed}
 use Rattle.qasm_parse.specs.Refused.{stop_of, told, fault_of}
 use Rattle.qasm_parse.specs.Known.{nothing_known}
-use Rattle.qasm_parse.specs.Faults.{faults, first_fault}
+use Rattle.qasm_parse.specs.Faults.{faults}
 use Rattle.qasm_parse.specs.Meets.{Meets}
 use Rattle.qasm_parse.specs.Behind.{behind}
-use Rattle.qasm_parse.specs.Pass.{terminals, unless, tried, Continues, ends, stops, breaks, goes_on, Behind, Reading, ReadsAll}
+use Rattle.qasm_parse.specs.Pass.{terminals, unless, Continues, ends, stops, breaks, goes_on, Behind, Reading, ReadsAll}
 
 pub reads_done : (ts : List Terminal) (n : ℕ) → reads done ts n ≡ Ok n
 unfolding reads may_end

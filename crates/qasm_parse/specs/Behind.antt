@@ -1,12 +1,11 @@
 -- What a statement that breaks no rule adds to what is known.
-use Rattle.std.specs.Prelude.{ℕ, true, ◌+◌, ◌++◌, List, [], ◌∷◌, length, map, fold, max, unwrap_or, Option, Some, None}
+use Rattle.std.specs.Prelude.{ℕ, true, ◌+◌, ◌++◌, List, [], ◌∷◌, length, map, fold, max, unwrap_or, Option}
 use Rattle.qasm_grammar.specs.declared.spoken.Argument.{Argument}
 use Rattle.qasm_grammar.specs.declared.spoken.GateCall.{GateCall}
 use Rattle.qasm_grammar.specs.declared.spoken.BodyStatement.{BodyStatement}
 use Rattle.qasm_grammar.specs.declared.spoken.BodyStatement.TheVariants as bodies
 use Rattle.qasm_grammar.specs.declared.spoken.Sentence.{Sentence}
 use Rattle.qasm_grammar.specs.declared.spoken.Sentence.TheVariants as sentences
-use Rattle.qasm_parse.specs.declared.tree.Tree.{Tree}
 use Rattle.qasm_parse.specs.declared.tree.Declared.{Declared}
 use Rattle.qasm_parse.specs.declared.tree.GateDef.{GateDef}
 use Rattle.qasm_parse.specs.declared.tree.BodyOp.{BodyOp}

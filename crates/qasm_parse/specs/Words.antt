@@ -1,10 +1,7 @@
 -- What the grammar sees of a token.
-use Rattle.std.specs.Prelude.{◌≡◌, ℕ, Bool, ◌+◌, ◌==◌, ◌&&◌, ◌||◌, if◌then◌else◌, List, codes, length, slice_get, slice_index, slice_range, count_by, Some, None, Result, Ok, Err}
+use Rattle.std.specs.Prelude.{ℕ, Bool, ◌+◌, ◌==◌, ◌&&◌, ◌||◌, if◌then◌else◌, List, codes, slice_get, slice_index, slice_range, count_by, Some, None}
 use Rattle.std.specs.Str.{bytes_eq}
 use Rattle.qasm_lex.specs.Tokens.{is_within}
-use Rattle.qasm_lex.specs.declared.fault.CircuitFault.{CircuitFault}
-use Rattle.qasm_lex.specs.declared.fault.CircuitFault.TheVariants as circuits
-use Rattle.qasm_parse.specs.declared.stop.Stop.{Stop}
 use Rattle.qasm_lex.specs.declared.Token.{Token}
 use Rattle.qasm_lex.specs.declared.TokenKind.{TokenKind}
 use Rattle.qasm_lex.specs.declared.TokenKind.TheVariants as kinds

@@ -8,15 +8,15 @@ ghost use Rattle.qasm_parse.specs.Meets.{Meets, Finds};
 ghost use Rattle.qasm_parse.specs.Faults.{repeated, informal, formal_of, body_call_faults, named_op_faults, body_faults, head_faults, gate_faults};
 ghost use Rattle.qasm_parse.specs.Behind.{gate_of, op_of, depth_of, with_gate};
 
-use crate::stop::{Fault, Stop};
 use crate::gates::cx;
 use crate::known::{Called, Known, Meaning};
 use crate::names::NameList;
 use crate::operands::has_twice;
 use crate::source::Source;
-use qasm_grammar::BodyStatement;
+use crate::stop::{Fault, Stop};
 use crate::tree::{BodyOp, Callee, GateDef};
 use patch_base::{DEFINITIONS, DEPTH, FORMALS, Listed};
+use qasm_grammar::BodyStatement;
 use qasm_lex::FaultKind;
 use std::alloc::Global;
 

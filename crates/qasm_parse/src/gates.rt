@@ -4,8 +4,8 @@ ghost use Rattle.std.specs.Prelude.{◌≡◌};
 ghost use Rattle.qasm_parse.specs.Gates.{built, one, two, cx, built_in, larger_built_in, may_be_own, is_barred, pauli_of};
 
 use crate::known::Called;
-use crate::words::is_taken;
 use crate::tree::{Callee, Gate1, Gate2};
+use crate::words::is_taken;
 
 fn one(gate: Gate1) -> Option<Called>
     ensures { result ≡ one gate }

@@ -7,12 +7,12 @@ ghost use Rattle.qasm_parse.specs.Known.{quantum_named};
 ghost use Rattle.qasm_parse.specs.Meets.{Meets};
 ghost use Rattle.qasm_parse.specs.Faults.{first_fault, name_place, past_end, meant, argument_faults, all_meant, times, has_size, meets, any_pair, call_faults};
 
-use crate::stop::{Fault, Stop};
 use crate::known::{Called, Known, Span};
 use crate::source::Source;
-use qasm_grammar::Argument;
+use crate::stop::{Fault, Stop};
 use crate::tree::Arg;
 use patch_base::{Listed, Memory};
+use qasm_grammar::Argument;
 use qasm_lex::FaultKind;
 use std::alloc::Global;
 

@@ -6,8 +6,8 @@ ghost use Rattle.qasm_parse.specs.Lexed.{AllPlaced, word_at, number_at, line_of,
 ghost use Rattle.qasm_parse.specs.Pass.{terminals};
 
 use crate::words::make_terminal;
-use qasm_grammar::Terminal;
 use patch_base::{Memory, decimal};
+use qasm_grammar::Terminal;
 use qasm_lex::Token;
 use std::alloc::Global;
 use std::marker::Model;

@@ -8,14 +8,14 @@ ghost use Rattle.qasm_parse.specs.Lexed.{word_at, number_at};
 ghost use Rattle.qasm_parse.specs.Behind.{behind, declared_at, with_statement, first_of};
 
 use crate::definitions::{define, find_gate};
-use crate::stop::{Fault, Stop};
 use crate::gates::{cx, pauli_of};
 use crate::known::{Known, Meaning, Span};
 use crate::operands::{meant, name_place, past_end, resolve, try_args};
 use crate::source::Source;
-use qasm_grammar::{Argument, GateCall, Sentence};
+use crate::stop::{Fault, Stop};
 use crate::tree::{Arg, Declared, Statement};
 use patch_base::{BITS, QUBITS, REGISTERS};
+use qasm_grammar::{Argument, GateCall, Sentence};
 use qasm_lex::FaultKind;
 use std::alloc::Global;
 
@@ -356,7 +356,15 @@ pub fn try_sentence(
             formals,
             body,
             ..
-        } => define(alloc, source, known, at, *name, formals.as_slice(), body.as_slice()),
+        } => define(
+            alloc,
+            source,
+            known,
+            at,
+            *name,
+            formals.as_slice(),
+            body.as_slice(),
+        ),
         Sentence::Call { call } => named_call(alloc, source, known, at, call),
         Sentence::If {
             register,

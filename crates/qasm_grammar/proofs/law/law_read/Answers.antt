@@ -1,5 +1,5 @@
-use Rattle.qasm_grammar.proofs.Allowed.{reads_to}
+use Rattle.qasm_grammar.proofs.Laws.{law_read}
 use Rattle.qasm_grammar.proofs.law.law_read.Goals as goal
 
 pub returns : goal.returns
-returns c = reads_to
+returns c = law_read

@@ -1,5 +1,5 @@
-use Rattle.qasm_grammar.proofs.Making.{some_sentence}
+use Rattle.qasm_grammar.proofs.Laws.{law_some_sentence}
 use Rattle.qasm_grammar.proofs.law.law_some_sentence.Goals as goal
 
 pub returns : goal.returns
-returns c = some_sentence
+returns c = law_some_sentence

@@ -1,4 +1,4 @@
-use Rattle.std.proofs.Common.{◌∙◌, ◌+◌, ◌∷◌, [], sym, ap, refl, arith}
+use Rattle.std.proofs.Common.{◌∙◌, ◌+◌, ◌∷◌, [], sym, refl, arith}
 use Rattle.std.proofs.lemmas.Result.{err_from_is_err_and}
 use Rattle.qasm_grammar.specs.declared.terminal.Terminal.TheVariants.{Name, Comma}
 use Rattle.qasm_grammar.specs.Forms.{Form, one, both, many, ◌⨾◌}

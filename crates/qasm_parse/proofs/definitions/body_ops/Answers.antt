@@ -1,8 +1,7 @@
-use Rattle.std.proofs.Common.{◌≡◌, ℕ, map, List, [], ◌∷◌, ◌++◌, get_or, ◌+◌, max, fold, take, take_all, sym, ap, ◌∙◌, refl, arith}
+use Rattle.std.proofs.Common.{◌≡◌, map, List, [], ◌∷◌, ◌++◌, get_or, ◌+◌, max, fold, take, take_all, sym, ap, ◌∙◌, refl, arith}
 use Rattle.std.specs.List.{flat_map}
 use Rattle.std.proofs.lemmas.Result.{err_from_is_err_and}
 use Rattle.qasm_grammar.specs.declared.spoken.BodyStatement.{BodyStatement}
-use Rattle.qasm_parse.specs.declared.tree.BodyOp.{BodyOp}
 use Rattle.qasm_parse.specs.Faults.{first_fault, body_faults}
 use Rattle.qasm_parse.specs.Behind.{op_of, depth_of}
 use Rattle.qasm_parse.proofs.First.{first_none, first_flat_more}

@@ -1,8 +1,8 @@
-use Rattle.std.proofs.Common.{◌≡◌, ℕ, List, [], map, sym, ap, ◌∙◌, take_all, take}
+use Rattle.std.proofs.Common.{◌≡◌, ℕ, List, map, sym, ap, ◌∙◌, take_all, take}
 use Rattle.qasm_parse.specs.Known.{place_of}
 use Rattle.qasm_parse.specs.Faults.{first_fault, informal, formal_of}
 use Rattle.qasm_parse.proofs.First.{first_none}
-use Rattle.qasm_parse.proofs.Formals.{Numbered, numbered_stop, numbered_step}
+use Rattle.qasm_parse.proofs.Formals.{numbered_stop, numbered_step}
 use Rattle.qasm_parse.proofs.definitions.formal_numbers.Goals as goal
 
 pub loop-arg-init : goal.loop-arg-init
