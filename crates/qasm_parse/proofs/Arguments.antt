@@ -1,12 +1,12 @@
 -- The arguments of a call.
-use Rattle.std.proofs.Common.{◌≡◌, ℕ, ◌+◌, ◌<◌, List, [], ◌∷◌, ◌++◌, map, length, take, get_or, Option, Some, None, is_none, refl, sym, ap, ◌∙◌, arith, take_all}
+use Rattle.std.proofs.Common.{◌≡◌, ℕ, ◌+◌, ◌<◌, List, [], ◌∷◌, ◌++◌, map, length, take, get_or, Option, Some, None, is_none, refl, sym, ap, ◌∙◌}
 use Rattle.qasm_lex.specs.declared.fault.FaultKind.TheVariants.{Undeclared}
-use Rattle.qasm_parse.specs.declared.follow.Stop.{Stop}
-use Rattle.qasm_parse.specs.declared.spoken.Argument.{Argument}
+use Rattle.qasm_parse.specs.declared.stop.Stop.{Stop}
+use Rattle.qasm_grammar.specs.declared.spoken.Argument.{Argument}
 use Rattle.qasm_parse.specs.declared.known.Span.{Span}
 use Rattle.qasm_parse.specs.declared.tree.Arg.{Arg}
 use Rattle.qasm_parse.proofs.Lists.{map_more}
-use Rattle.qasm_parse.proofs.First.{first_front, first_behind, first_at, first_more, first_joined, first_here, first_next}
+use Rattle.qasm_parse.proofs.First.{first_front, first_behind, first_at, first_more, first_joined}
 use Rattle.qasm_parse.specs.Lexed.{Lexed}
 use Rattle.qasm_parse.specs.Faults.{Registers, first_fault, argument_faults, all_meant, broken, name_place, register_of, undeclared, past_end, meant}
 

@@ -1,12 +1,12 @@
 -- Rules that are broken, and those that aren't.
-use Rattle.std.proofs.Common.{◌≡◌, ℕ, length, take, get_or, Bool, true, false, not, List, [], ◌∷◌, ◌++◌, Option, Some, None, Result, Ok, Err, nat_eq, refl, sym, ap, ◌∙◌, arith}
+use Rattle.std.proofs.Common.{◌≡◌, ℕ, length, take, get_or, Bool, true, false, not, List, [], ◌∷◌, ◌++◌, Option, Some, None, Result, Ok, Err, refl, sym, ap, ◌∙◌, arith}
 use Rattle.std.specs.List.{flat_map}
 use Rattle.std.specs.Prelude.{◌==◌, nat_le, nat_lt, ◌<◌, ◌≤◌}
 use Rattle.std.proofs.lemmas.Bool.Decides.{nat_tests}
 use Rattle.qasm_lex.specs.declared.fault.FaultKind.{FaultKind}
-use Rattle.qasm_parse.specs.declared.follow.Stop.{Stop}
-use Rattle.qasm_parse.specs.declared.follow.Fault.{Fault}
-use Rattle.qasm_parse.specs.declared.follow.Fault.TheVariants.{Memory, Stopping}
+use Rattle.qasm_parse.specs.declared.stop.Stop.{Stop}
+use Rattle.qasm_parse.specs.declared.stop.Fault.{Fault}
+use Rattle.qasm_parse.specs.declared.stop.Fault.TheVariants.{Memory, Stopping}
 use Rattle.qasm_lex.specs.declared.fault.FaultKind.TheVariants.{Unknown}
 use Rattle.qasm_parse.specs.declared.known.Called.{Called}
 use Rattle.qasm_parse.specs.Faults.{broken, first_fault, named_faults}

@@ -1,10 +1,10 @@
 -- The first rule that is broken.
-use Rattle.std.proofs.Common.{◌≡◌, ℕ, ◌+◌, ◌<◌, List, [], ◌∷◌, ◌++◌, map, length, take, drop, get_or, Option, Some, None, refl, sym, ap, ◌∙◌, arith, append-nil, take-append-drop}
+use Rattle.std.proofs.Common.{◌≡◌, ℕ, ◌+◌, ◌<◌, List, [], ◌∷◌, ◌++◌, map, length, take, drop, get_or, Option, Some, None, refl, sym, ap, ◌∙◌, append-nil, take-append-drop}
 use Rattle.std.specs.List.{flat_map, slice_get}
 use Rattle.std.proofs.lemmas.Option.{slice_get-get_or}
 use Rattle.std.proofs.lemmas.List.{map-append, take_more}
 use Rattle.std.proofs.lemmas.List.Concat.{flat_map-append}
-use Rattle.qasm_parse.specs.declared.follow.Stop.{Stop}
+use Rattle.qasm_parse.specs.declared.stop.Stop.{Stop}
 use Rattle.qasm_parse.specs.Faults.{first_fault}
 use Rattle.qasm_parse.proofs.Lists.{map_more, next_of}
 
@@ -27,7 +27,7 @@ first_joined [] y = refl
 first_joined (None ∷ xs) y = first_joined xs y
 first_joined (Some f ∷ xs) y = refl
 
--- rules behind those that aren't broken
+-- rules after those that aren't broken
 pub first_behind : (xs ys : List (Option Stop)) → first_fault xs ≡ None → first_fault (xs ++ ys) ≡ first_fault ys
 unfolding first_fault
 first_behind [] ys e = refl

@@ -1,13 +1,12 @@
 -- The formal names of a definition.
-use Rattle.std.proofs.Common.{◌≡◌, ℕ, ◌+◌, ◌<◌, ◌≤◌, List, [], ◌∷◌, ◌++◌, map, length, take, drop, get_or, Option, Some, None, is_none, is_some, unwrap_or, refl, sym, ap, ◌∙◌, arith, take_all}
+use Rattle.std.proofs.Common.{◌≡◌, ℕ, ◌+◌, ◌<◌, ◌≤◌, List, [], ◌∷◌, ◌++◌, map, length, take, drop, get_or, Option, Some, None, is_none, is_some, unwrap_or, sym, ap, ◌∙◌, take_all}
 use Rattle.std.proofs.lemmas.List.{drop_all}
 use Rattle.qasm_lex.specs.declared.fault.FaultKind.TheVariants.{Undeclared, Declared}
-use Rattle.qasm_parse.specs.declared.follow.Stop.{Stop}
 use Rattle.qasm_parse.specs.Lexed.{Lexed, word_at}
 use Rattle.qasm_parse.specs.Known.{place_of}
 use Rattle.qasm_parse.specs.Faults.{broken, first_fault, repeated, informal, formal_of}
 use Rattle.qasm_parse.proofs.Lists.{map_more, next_of}
-use Rattle.qasm_parse.proofs.First.{first_at, first_more, first_here, first_next, first_none}
+use Rattle.qasm_parse.proofs.First.{first_at, first_more, first_none}
 use Rattle.qasm_parse.proofs.Broken.{stop_at, rule_is, rule_not}
 
 -- the first formal names are new

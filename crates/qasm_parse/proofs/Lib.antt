@@ -6,12 +6,7 @@ pub mod Meeting
 pub mod Arguments
 pub mod Made
 pub mod Formals
-pub mod Steps
-pub mod Spelled
-pub mod Starts
-pub mod Files
-pub mod Allowed
 pub mod Passing
-pub mod Sole
-pub mod OneSentence
 pub mod OneTree
+pub mod Answered
+pub mod Laws

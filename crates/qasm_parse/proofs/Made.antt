@@ -1,10 +1,8 @@
 -- What declarations add to what is known.
-use Rattle.std.proofs.Common.{◌≡◌, ℕ, ◌+◌, List, [], ◌∷◌, ◌++◌, length, ◌||◌, Bool, true, false, ◌≤◌, ◌<◌, refl, ap, sym, ◌∙◌, arith}
-use Rattle.std.specs.Prelude.{nat_le, nat_lt}
+use Rattle.std.proofs.Common.{ℕ, ◌+◌, List}
 use Rattle.qasm_parse.specs.declared.tree.Declared.{Declared}
 use Rattle.qasm_parse.specs.declared.tree.GateDef.{GateDef}
 use Rattle.qasm_parse.specs.declared.known.Known.{Known}
-use Rattle.qasm_parse.proofs.Broken.{reaches, falls_short, passes, stays}
 
 abbrev pub declared_quantum : Known → List Declared → ℕ → Known
 declared_quantum d q m = record {
@@ -35,13 +33,3 @@ declared_gate d g = record {
   bits = d.bits;
   tree = record { quantum = d.tree.quantum; classical = d.tree.classical; gates = g; statements = d.tree.statements };
 }
-
-pub either_left : (a b : Bool) → a ≡ true → (a || b) ≡ true
-either_left a b e = ap (λ (c : Bool). c || b) e
-
-pub either_right : (a b : Bool) → b ≡ true → (a || b) ≡ true
-either_right true b e = refl
-either_right false b e = e
-
-pub neither : (a b : Bool) → a ≡ false → b ≡ false → (a || b) ≡ false
-neither a b e f = (λ i. e i || f i)

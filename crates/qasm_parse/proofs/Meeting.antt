@@ -1,5 +1,5 @@
 -- Arguments that mean one qubit at some index.
-use Rattle.std.proofs.Common.{◌≡◌, ℕ, zero, suc, ◌+◌, ◌-◌, ◌<◌, Bool, true, false, ◌&&◌, ◌||◌, nat_lt, nat_le, nat_eq, List, [], ◌∷◌, length, take, drop, get_or, refl, sym, ap, ◌∙◌, arith}
+use Rattle.std.proofs.Common.{◌≡◌, ℕ, zero, suc, ◌+◌, ◌-◌, ◌<◌, Bool, true, false, ◌&&◌, ◌||◌, nat_lt, nat_le, List, length, take, drop, get_or, refl, sym, ap, ◌∙◌, arith}
 use Rattle.std.specs.Prelude.{◌==◌}
 use Rattle.std.specs.List.{list_any, range_with_len}
 use Rattle.std.proofs.lemmas.List.{take_all, length-drop}
@@ -29,7 +29,7 @@ pub any_same : (x y s n : ℕ) → list_any (λ i. x == y) (range_with_len s n) 
 any_same x y s zero = refl
 any_same x y s (suc n) = let rest = any_same x y (s + 1) n in rw rest (grind (arith, nat_tests))
 
--- all behind a place
+-- all after a place
 all_behind : {X : Type 0} (xs : List X) (n : ℕ) → take (length xs - n) (drop n xs) ≡ drop n xs
 all_behind xs n = take_all (length xs - n) (drop n xs) (omega (arith, length-drop n xs))
 

@@ -1,5 +1,5 @@
 -- The value of a whole number.
-use Rattle.std.proofs.Common.{◌≡◌, ◌≢◌, ℕ, ◌<◌, ◌^◌, Bool, true, false, List, decimal, Option, Some, None, IfSome, IfNone, is_some, if◌then◌else◌, unwrap_or, refl, sym, ap, ◌∙◌, arith}
+use Rattle.std.proofs.Common.{◌≡◌, ◌≢◌, ℕ, ◌<◌, ◌^◌, Bool, true, false, List, decimal, Option, Some, None, IfSome, IfNone, if◌then◌else◌, unwrap_or, refl, sym, ap, ◌∙◌, arith}
 use Rattle.std.specs.Str.Parse.{AllDigits, digits_value}
 use Rattle.std.proofs.lemmas.Str.Parse.{numerals_by_value, tells_digits}
 use Rattle.std.proofs.lemmas.Fmt.{digits_value-decimal}

@@ -1,36 +1,33 @@
 -- A text has a tree or a fault, one alone.
-use Rattle.std.proofs.Common.{◌≡◌, ℕ, false, List, [], length, drop, Result, Ok, Err, refl, sym, ap, subst, ◌∙◌, arith}
-use Rattle.std.proofs.lemmas.List.{length-map, drop_all}
+use Rattle.std.proofs.Common.{◌≡◌, ℕ, false, List, length, drop, Result, Ok, Err, refl, sym, ap, subst, ◌∙◌, arith}
+use Rattle.std.proofs.lemmas.List.{length-map}
 use Rattle.qasm_lex.specs.declared.Token.{Token}
 use Rattle.qasm_lex.specs.declared.fault.FaultKind.{FaultKind}
-use Rattle.qasm_lex.specs.declared.fault.FaultKind.TheVariants.{Syntax}
-use Rattle.qasm_parse.specs.declared.follow.Stop.{Stop}
-use Rattle.qasm_parse.specs.declared.spoken.Sentence.{Sentence}
-use Rattle.qasm_parse.specs.declared.terminal.Terminal.{Terminal}
+use Rattle.qasm_parse.specs.declared.stop.Stop.{Stop}
+use Rattle.qasm_grammar.specs.declared.spoken.Sentence.{Sentence}
+use Rattle.qasm_grammar.specs.declared.terminal.Terminal.{Terminal}
 use Rattle.qasm_parse.specs.declared.known.Known.{Known}
 use Rattle.qasm_parse.specs.declared.tree.Tree.{Tree}
 use Rattle.qasm_parse.specs.Words.{terminal_of, line_at}
-use Rattle.qasm_parse.specs.Forms.{reads, may_end, at_end, ◌⨾◌, ◌or◌}
-use Rattle.qasm_parse.specs.Grammar.{one_version, one_statement, arg, args, names, brackets, include, register, call_of, named_call, cx_call, measure, barrier, reset, names_behind, body_call, body, bodies, gate, if_equal, statement}
-use Rattle.qasm_parse.specs.Spelling.{Spells, sentence_text}
+use Rattle.qasm_grammar.specs.Forms.{reads}
+use Rattle.qasm_grammar.specs.Grammar.{one_version, one_statement}
+use Rattle.qasm_grammar.specs.Spelling.{Spells, sentence_text}
 use Rattle.qasm_parse.specs.Lexed.{Lexed}
+use Rattle.qasm_parse.specs.Refused.{told}
 use Rattle.qasm_parse.specs.Known.{nothing_known}
 use Rattle.qasm_parse.specs.Pass.{terminals, tried, Refuses, Continues, Behind, Reading, HasTree, HasFault}
 use Rattle.qasm_parse.specs.Pass.Continues.{ends, stops, breaks, goes_on}
-use Rattle.qasm_parse.proofs.OneSentence.{tried_one}
+use Rattle.qasm_grammar.proofs.Laws.{law_one_sentence, law_some_sentence}
 
 -- no statement is read where no token is left
-nothing_read : (n : ℕ) → reads one_statement [] n ≡ Err (record { at = n; kind = Syntax })
-unfolding reads may_end at_end ◌⨾◌ ◌or◌ arg args names brackets include register call_of named_call cx_call measure barrier reset names_behind body_call body bodies gate if_equal statement
-nothing_read n = refl
-
-none_left : (x : Lexed) (k : Known) (at : ℕ) → at ≡ length x.tokens → drop at (terminals x k.included) ≡ []
-none_left x k at e = drop_all at (terminals x k.included) (omega (arith, e, length-map x.tokens (terminal_of k.included x.text)))
-
 not_read : (x : Lexed) (k : Known) (at end : ℕ) → at ≡ length x.tokens → reads one_statement (drop at (terminals x k.included)) at ≡ Ok end → ⊥
 not_read x k at end e r =
-    let stopped = sym (nothing_read at) ∙ ap (λ (ts : List Terminal). reads one_statement ts at) (sym (none_left x k at e)) ∙ r in
-    cc
+    let s = law_some_sentence (terminals x k.included) at end r in
+    omega (arith, e, s.2, s.3, length-map x.tokens (terminal_of k.included x.text))
+
+-- statements that the same tokens spell are tried alike
+tried_one : (s u : Sentence) (x : Lexed) (k : Known) (found : List Terminal) (at m n : ℕ) → Spells (sentence_text s) found at m → Spells (sentence_text u) found at n → tried x k at s ≡ tried x k at u
+tried_one s u x k found at m n p q = ap (tried x k at) (law_one_sentence s u found at m n p q).0
 
 -- at the end of the tokens reading gives what is known
 at_the_end : (x : Lexed) (k : Known) (at : ℕ) (r : Result Known Stop) → Continues x k at r → at ≡ length x.tokens → Ok k ≡ r
@@ -43,24 +40,24 @@ at_the_end x _ _ _ (goes_on k next at end s r h spelled t on) e = absurd (not_re
 at_a_stop : (x : Lexed) (k : Known) (at : ℕ) (r : Result Known Stop) → Continues x k at r → (stop : Stop) → Refuses x k at stop → Err stop ≡ r
 at_a_stop x _ _ _ (ends k) stop w = absurd (omega (arith, w.0))
 at_a_stop x _ _ _ (stops k at other h) stop w = (let e = sym w.1 ∙ h.1 in cc)
-at_a_stop x _ _ _ (breaks k at end s other h spelled t) stop w = (let e = sym w.1 ∙ h in cc)
-at_a_stop x _ _ _ (goes_on k next at end s r h spelled t on) stop w = (let e = sym w.1 ∙ h in cc)
+at_a_stop x _ _ _ (breaks k at end s other h spelled t) stop w = (let e = sym w.1 ∙ ap told h in cc)
+at_a_stop x _ _ _ (goes_on k next at end s r h spelled t on) stop w = (let e = sym w.1 ∙ ap told h in cc)
 
 -- where a statement breaks a rule, that is the fault
 at_a_break : (x : Lexed) (k : Known) (at : ℕ) (r : Result Known Stop) → Continues x k at r → (end : ℕ) (u : Sentence) (stop : Stop) → reads one_statement (drop at (terminals x k.included)) at ≡ Ok end
     → Spells (sentence_text u) (terminals x k.included) at end → tried x k at u ≡ Err stop → Err stop ≡ r
 at_a_break x _ _ _ (ends k) end u stop w spells v = absurd (not_read x k (length x.tokens) end refl w)
-at_a_break x _ _ _ (stops k at other h) end u stop w spells v = (let e = sym w ∙ h.1 in cc)
+at_a_break x _ _ _ (stops k at other h) end u stop w spells v = (let e = sym (ap told w) ∙ h.1 in cc)
 at_a_break x _ _ _ (breaks k at m s other h spelled t) end u stop w spells v = sym v ∙ tried_one u s x k (terminals x k.included) at end m spells spelled ∙ t
 at_a_break x _ _ _ (goes_on k next at m s r h spelled t on) end u stop w spells v =
     let e = sym v ∙ tried_one u s x k (terminals x k.included) at end m spells spelled ∙ t in
     absurd (cc)
 
--- behind a statement that breaks none reading goes on
+-- after a statement that breaks none reading goes on
 behind_it : (x : Lexed) (k : Known) (at : ℕ) (r : Result Known Stop) → Continues x k at r → (end : ℕ) (u : Sentence) (next : Known) → reads one_statement (drop at (terminals x k.included)) at ≡ Ok end
     → Spells (sentence_text u) (terminals x k.included) at end → tried x k at u ≡ Ok next → Continues x next end r
 behind_it x _ _ _ (ends k) end u next w spells v = absurd (not_read x k (length x.tokens) end refl w)
-behind_it x _ _ _ (stops k at other h) end u next w spells v = absurd (let e = sym w ∙ h.1 in cc)
+behind_it x _ _ _ (stops k at other h) end u next w spells v = absurd (let e = sym (ap told w) ∙ h.1 in cc)
 behind_it x _ _ _ (breaks k at m s other h spelled t) end u next w spells v =
     absurd (let e = sym v ∙ tried_one u s x k (terminals x k.included) at end m spells spelled ∙ t in cc)
 behind_it x _ _ _ (goes_on k other at m s r h spelled t on) end u next w spells v =
@@ -80,7 +77,7 @@ continues_one x _ _ _ (goes_on k next at end s r h spelled t on) q d = continues
 
 -- reading a text from its tokens gives one thing alone
 reading_one : (x : Lexed) (r q : Result Known Stop) → Reading x r → Reading x q → r ≡ q
-reading_one x r q = from (reads one_version (terminals x false) 0)
+reading_one x r q = from (told (reads one_version (terminals x false) 0))
   where
     from : (v : Result ℕ Stop) → Behind x v r → Behind x v q → r ≡ q
     from (Err stop) a b = a ∙ sym b

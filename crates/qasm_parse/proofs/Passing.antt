@@ -1,22 +1,25 @@
 -- Reading statement by statement.
 use Rattle.std.proofs.lemmas.List.{length-map}
-use Rattle.qasm_parse.specs.Words.{terminal_of}
-use Rattle.std.proofs.Common.{◌≡◌, ℕ, Bool, false, ◌+◌, ◌-◌, ◌<◌, ◌≤◌, List, [], ◌∷◌, length, drop, Option, None, Some, Result, Ok, Err, refl, sym, ap, subst, ◌∙◌, arith}
-use Rattle.qasm_parse.specs.declared.follow.Stop.{Stop}
-use Rattle.qasm_parse.specs.declared.follow.Fault.{Fault}
-use Rattle.qasm_parse.specs.declared.follow.Fault.TheVariants.{Memory, Stopping}
-use Rattle.qasm_parse.specs.declared.spoken.Sentence.{Sentence}
-use Rattle.qasm_parse.specs.declared.terminal.Terminal.{Terminal}
+use Rattle.std.proofs.Common.{◌≡◌, ℕ, Bool, false, ◌-◌, ◌<◌, ◌≤◌, List, [], ◌∷◌, length, drop, Option, Result, Ok, Err, refl, sym, ap, subst, ◌∙◌, arith}
+use Rattle.qasm_parse.specs.declared.stop.Stop.{Stop}
+use Rattle.qasm_parse.specs.declared.stop.Fault.{Fault}
+use Rattle.qasm_parse.specs.declared.stop.Fault.TheVariants.{Memory, Stopping}
+use Rattle.qasm_grammar.specs.declared.spoken.Sentence.{Sentence}
+use Rattle.qasm_grammar.specs.declared.terminal.Terminal.{Terminal}
 use Rattle.qasm_parse.specs.declared.known.Known.{Known}
-use Rattle.qasm_parse.specs.Forms.{Form, done, reads, may_end, Stopped}
-use Rattle.qasm_parse.specs.Grammar.{one_version, one_statement}
-use Rattle.qasm_parse.specs.Spelling.{Spells, sentence_text}
+use Rattle.qasm_grammar.specs.Forms.{done, reads, may_end, Stopped}
+use Rattle.qasm_grammar.specs.Grammar.{one_version, one_statement}
+use Rattle.qasm_grammar.specs.Spelling.{Spells, sentence_text}
+use Rattle.qasm_grammar.specs.declared.follow.Halt.{Halt}
+use Rattle.qasm_grammar.specs.declared.follow.Unread.{Unread}
+use Rattle.qasm_grammar.specs.declared.follow.Unread.TheVariants as unreads
 use Rattle.qasm_parse.specs.Lexed.{Lexed}
+use Rattle.qasm_parse.specs.Refused.{stop_of, told, fault_of}
 use Rattle.qasm_parse.specs.Known.{nothing_known}
-use Rattle.qasm_parse.specs.Faults.{faults, first_fault}
+use Rattle.qasm_parse.specs.Faults.{faults}
 use Rattle.qasm_parse.specs.Meets.{Meets}
 use Rattle.qasm_parse.specs.Behind.{behind}
-use Rattle.qasm_parse.specs.Pass.{terminals, unless, tried, Continues, ends, stops, breaks, goes_on, Behind, Reading, ReadsAll}
+use Rattle.qasm_parse.specs.Pass.{terminals, unless, Continues, ends, stops, breaks, goes_on, Behind, Reading, ReadsAll}
 
 pub reads_done : (ts : List Terminal) (n : ℕ) → reads done ts n ≡ Ok n
 unfolding reads may_end
@@ -27,20 +30,20 @@ reads_done (t ∷ ts) n = refl
 abbrev pub LeadsOn : Lexed → Known → ℕ → Type 0
 LeadsOn x k at = (r : Result Known Stop) → Continues x k at r → Reading x r
 
-pub version_stops : (x : Lexed) (fault : Fault) → Stopped fault (reads one_version (terminals x false) 0) → ReadsAll x (Err fault)
-version_stops x Memory s = tt
-version_stops x (Stopping stop) s =
-    let P : Result ℕ Stop → Type 0 = λ v. Behind x v (Err stop) in
+pub version_stops : (x : Lexed) (u : Unread) → Stopped u (reads one_version (terminals x false) 0) → ReadsAll x (Err (fault_of u))
+version_stops x unreads.Memory s = tt
+version_stops x (unreads.Halted halt) s =
+    let P : Result ℕ Halt → Type 0 = λ v. Behind x (told v) (Err (stop_of halt)) in
     subst P (sym s) refl
 
 pub version_read : (x : Lexed) (at : ℕ) → reads one_version (terminals x false) 0 ≡ Ok at → LeadsOn x nothing_known at
 version_read x at e = λ r h.
-    let P : Result ℕ Stop → Type 0 = λ v. Behind x v r in
+    let P : Result ℕ Halt → Type 0 = λ v. Behind x (told v) r in
     subst P (sym e) h
 
-pub statement_stops : (x : Lexed) (k : Known) (at : ℕ) (fault : Fault) → LeadsOn x k at → at < length x.tokens → Stopped fault (reads one_statement (drop at (terminals x k.included)) at) → ReadsAll x (Err fault)
-statement_stops x k at Memory on lt s = tt
-statement_stops x k at (Stopping stop) on lt s = on (Err stop) (stops k at stop (lt, s))
+pub statement_stops : (x : Lexed) (k : Known) (at : ℕ) (u : Unread) → LeadsOn x k at → at < length x.tokens → Stopped u (reads one_statement (drop at (terminals x k.included)) at) → ReadsAll x (Err (fault_of u))
+statement_stops x k at unreads.Memory on lt s = tt
+statement_stops x k at (unreads.Halted halt) on lt s = on (Err (stop_of halt)) (stops k at (stop_of halt) (lt, ap told s))
 
 pub statement_breaks : (x : Lexed) (k : Known) (at end : ℕ) (s : Sentence) (fault : Fault) → LeadsOn x k at → reads one_statement (drop at (terminals x k.included)) at ≡ Ok end → Spells (sentence_text s) (terminals x k.included) at end → Meets (Err fault) (faults x k at s) (behind x k at s) → ReadsAll x (Err fault)
 statement_breaks x k at end s Memory on e spelled m = tt
@@ -83,10 +86,10 @@ standing_next x found new k next at end s h le form spelled m e =
       on = statement_read x k next at end s h.on (standing_statement x found k at end h form) (subst P h.seen spelled) m;
     }
 
-pub standing_stops : (x : Lexed) (found : List Terminal) (k : Known) (at : ℕ) (fault : Fault) → Standing x found k at → at < length found → Stopped fault (reads one_statement (drop at found) at) → ReadsAll x (Err fault)
-standing_stops x found k at fault h lt s =
-    let P : List Terminal → Type 0 = λ ts. Stopped fault (reads one_statement (drop at ts) at) in
-    statement_stops x k at fault h.on (omega (arith, count x k.included found h.seen, lt)) (subst P h.seen s)
+pub standing_stops : (x : Lexed) (found : List Terminal) (k : Known) (at : ℕ) (u : Unread) → Standing x found k at → at < length found → Stopped u (reads one_statement (drop at found) at) → ReadsAll x (Err (fault_of u))
+standing_stops x found k at u h lt s =
+    let P : List Terminal → Type 0 = λ ts. Stopped u (reads one_statement (drop at ts) at) in
+    statement_stops x k at u h.on (omega (arith, count x k.included found h.seen, lt)) (subst P h.seen s)
 
 pub standing_breaks : (x : Lexed) (found : List Terminal) (k : Known) (at end : ℕ) (s : Sentence) (fault : Fault) → Standing x found k at → reads one_statement (drop at found) at ≡ reads done (drop end found) end → Spells (sentence_text s) found at end → Meets (Err fault) (faults x k at s) (behind x k at s) → ReadsAll x (Err fault)
 standing_breaks x found k at end s fault h form spelled m =

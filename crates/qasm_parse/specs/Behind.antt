@@ -1,12 +1,11 @@
 -- What a statement that breaks no rule adds to what is known.
-use Rattle.std.specs.Prelude.{ℕ, true, ◌+◌, ◌++◌, List, [], ◌∷◌, length, map, fold, max, unwrap_or, Option, Some, None}
-use Rattle.qasm_parse.specs.declared.spoken.Argument.{Argument}
-use Rattle.qasm_parse.specs.declared.spoken.GateCall.{GateCall}
-use Rattle.qasm_parse.specs.declared.spoken.BodyStatement.{BodyStatement}
-use Rattle.qasm_parse.specs.declared.spoken.BodyStatement.TheVariants as bodies
-use Rattle.qasm_parse.specs.declared.spoken.Sentence.{Sentence}
-use Rattle.qasm_parse.specs.declared.spoken.Sentence.TheVariants as sentences
-use Rattle.qasm_parse.specs.declared.tree.Tree.{Tree}
+use Rattle.std.specs.Prelude.{ℕ, true, ◌+◌, ◌++◌, List, [], ◌∷◌, length, map, fold, max, unwrap_or, Option}
+use Rattle.qasm_grammar.specs.declared.spoken.Argument.{Argument}
+use Rattle.qasm_grammar.specs.declared.spoken.GateCall.{GateCall}
+use Rattle.qasm_grammar.specs.declared.spoken.BodyStatement.{BodyStatement}
+use Rattle.qasm_grammar.specs.declared.spoken.BodyStatement.TheVariants as bodies
+use Rattle.qasm_grammar.specs.declared.spoken.Sentence.{Sentence}
+use Rattle.qasm_grammar.specs.declared.spoken.Sentence.TheVariants as sentences
 use Rattle.qasm_parse.specs.declared.tree.Declared.{Declared}
 use Rattle.qasm_parse.specs.declared.tree.GateDef.{GateDef}
 use Rattle.qasm_parse.specs.declared.tree.BodyOp.{BodyOp}
@@ -32,7 +31,7 @@ gate_of x k name = unwrap_or (gate_named k (word_at x name)) cx
 abbrev pub span_named : Option Span → Span
 span_named r = unwrap_or r (record { first = 0; size = 0 })
 
--- a register has the span of its name in the text, and the numbers behind those of its kind before it
+-- a register has the span of its name in the text, and the numbers after those of its kind before it
 abbrev pub declared_at : Lexed → ℕ → ℕ → ℕ → Declared
 declared_at x name first size = record { start = start_of x name; end = end_of x name; first = first; size = size }
 
@@ -48,8 +47,8 @@ with_classical x k name size =
 
 -- a statement of a body, with its gate and the numbers of its formal names
 abbrev pub op_of : Lexed → Known → List (List ℕ) → BodyStatement → BodyOp
-op_of x k names (bodies.Call name brackets args) = ops.Call (gate_of x k name).gate (map (formal_of x names) args.items)
-op_of x k names (bodies.Cx at args) = ops.Call cx.gate (map (formal_of x names) args.items)
+op_of x k names (bodies.Call name brackets args) = ops.Call (gate_of x k name).gate (map (formal_of x names) args)
+op_of x k names (bodies.Cx at args) = ops.Call cx.gate (map (formal_of x names) args)
 op_of x k names (bodies.Barrier args) = ops.Barrier
 
 -- how deep the gate is that a statement of a body calls
@@ -74,25 +73,25 @@ first_of [] = Single 0
 first_of (a ∷ others) = a
 
 abbrev pub call_statement : Lexed → Known → ℕ → GateCall → Statement
-call_statement x k at c = statements.Call (line_of x at) (gate_of x k c.name).gate (all_meant x (quantum_named k) c.args.items)
+call_statement x k at c = statements.Call (line_of x at) (gate_of x k c.name).gate (all_meant x (quantum_named k) c.args)
 
 abbrev pub if_statement : Lexed → Known → ℕ → ℕ → ℕ → GateCall → Statement
 if_statement x k at register value c =
     let bits = span_named (classical_named k (word_at x register)) in
-    statements.If (line_of x at) bits.first bits.size (number_at x value) (pauli_of (word_at x c.name)) (first_of (all_meant x (quantum_named k) c.args.items))
+    statements.If (line_of x at) bits.first bits.size (number_at x value) (pauli_of (word_at x c.name)) (first_of (all_meant x (quantum_named k) c.args))
 
 abbrev pub measure_statement : Lexed → Known → ℕ → Argument → Argument → Statement
 measure_statement x k at from to = statements.Measure (line_of x at) (meant x (register_of x (quantum_named k) from) from) (meant x (register_of x (classical_named k) to) to)
 
--- what is known behind a statement that begins at a place
+-- what is known after a statement that begins at a place
 abbrev pub behind : Lexed → Known → ℕ → Sentence → Known
 behind x k at sentences.Include = record k { included = true }
 behind x k at (sentences.Qreg name size) = with_quantum x k name (number_at x size)
 behind x k at (sentences.Creg name size) = with_classical x k name (number_at x size)
-behind x k at (sentences.Gate name brackets formals body) = with_gate x k name formals.items body.items
+behind x k at (sentences.Gate name brackets formals body) = with_gate x k name formals body
 behind x k at (sentences.Call c) = with_statement k (call_statement x k at c)
 behind x k at (sentences.If register value c) = with_statement k (if_statement x k at register value c)
-behind x k at (sentences.Cx args) = with_statement k (statements.Call (line_of x at) cx.gate (all_meant x (quantum_named k) args.items))
+behind x k at (sentences.Cx args) = with_statement k (statements.Call (line_of x at) cx.gate (all_meant x (quantum_named k) args))
 behind x k at (sentences.Measure from to) = with_statement k (measure_statement x k at from to)
 behind x k at (sentences.Barrier args) = with_statement k (statements.Barrier (line_of x at))
 behind x k at (sentences.Reset a) = with_statement k (statements.Reset (line_of x at) (first_of (all_meant x (quantum_named k) (a ∷ []))))

@@ -3,14 +3,14 @@ use Rattle.std.specs.Prelude.{ℕ, Bool, true, false, ◌+◌, ◌==◌, ◌||�
 use Rattle.std.specs.List.{list_any, list_all, range_with_len}
 use Rattle.qasm_lex.specs.declared.fault.FaultKind.{FaultKind}
 use Rattle.qasm_lex.specs.declared.fault.FaultKind.TheVariants.{Unsupported, Unknown, Declared, Undeclared, Index, Arity, Sizes, SameQubit, TooMany}
-use Rattle.qasm_parse.specs.declared.follow.Stop.{Stop}
-use Rattle.qasm_parse.specs.declared.spoken.Argument.{Argument}
-use Rattle.qasm_parse.specs.declared.spoken.Argument.TheVariants as arguments
-use Rattle.qasm_parse.specs.declared.spoken.GateCall.{GateCall}
-use Rattle.qasm_parse.specs.declared.spoken.BodyStatement.{BodyStatement}
-use Rattle.qasm_parse.specs.declared.spoken.BodyStatement.TheVariants as bodies
-use Rattle.qasm_parse.specs.declared.spoken.Sentence.{Sentence}
-use Rattle.qasm_parse.specs.declared.spoken.Sentence.TheVariants as sentences
+use Rattle.qasm_parse.specs.declared.stop.Stop.{Stop}
+use Rattle.qasm_grammar.specs.declared.spoken.Argument.{Argument}
+use Rattle.qasm_grammar.specs.declared.spoken.Argument.TheVariants as arguments
+use Rattle.qasm_grammar.specs.declared.spoken.GateCall.{GateCall}
+use Rattle.qasm_grammar.specs.declared.spoken.BodyStatement.{BodyStatement}
+use Rattle.qasm_grammar.specs.declared.spoken.BodyStatement.TheVariants as bodies
+use Rattle.qasm_grammar.specs.declared.spoken.Sentence.{Sentence}
+use Rattle.qasm_grammar.specs.declared.spoken.Sentence.TheVariants as sentences
 use Rattle.qasm_parse.specs.declared.tree.Arg.{Arg}
 use Rattle.qasm_parse.specs.declared.tree.Arg.TheVariants.{Whole, Single}
 use Rattle.qasm_parse.specs.declared.known.Known.{Known}
@@ -117,7 +117,7 @@ named_faults (Some g) name others = others g
 abbrev pub if_faults : Lexed → Known → ℕ → ℕ → GateCall → List (Option Stop)
 if_faults x k at register c =
     broken Unsupported (is_own_gate k (word_at x c.name)) c.name
-    ∷ named_faults (gate_named k (word_at x c.name)) c.name (λ g. undeclared x (classical_named k) register ∷ call_faults x k at g c.args.items)
+    ∷ named_faults (gate_named k (word_at x c.name)) c.name (λ g. undeclared x (classical_named k) register ∷ call_faults x k at g c.args)
 
 -- a measurement goes from one qubit to one bit, or from a whole register to one of its size
 abbrev pub fit_together : Arg → Arg → Bool
@@ -188,9 +188,9 @@ abbrev pub named_op_faults : Lexed → Known → List (List ℕ) → ℕ → Lis
 named_op_faults x k names name args = named_faults (gate_named k (word_at x name)) name (λ g. body_call_faults x names name g args)
 
 abbrev pub body_faults : Lexed → Known → List (List ℕ) → BodyStatement → List (Option Stop)
-body_faults x k names (bodies.Call name brackets args) = named_op_faults x k names name args.items
-body_faults x k names (bodies.Cx at args) = body_call_faults x names at cx args.items
-body_faults x k names (bodies.Barrier args) = map (informal x names) args.items
+body_faults x k names (bodies.Call name brackets args) = named_op_faults x k names name args
+body_faults x k names (bodies.Cx at args) = body_call_faults x names at cx args
+body_faults x k names (bodies.Barrier args) = map (informal x names) args
 
 -- in a definition the head is tried first, and then each statement of its body
 abbrev pub gate_faults : Lexed → Known → ℕ → ℕ → List ℕ → List BodyStatement → List (Option Stop)
@@ -198,17 +198,17 @@ gate_faults x k at name formals body = head_faults x k at name formals ++ flat_m
 
 -- a gate is called by its name
 abbrev pub named_call_faults : Lexed → Known → ℕ → GateCall → List (Option Stop)
-named_call_faults x k at c = named_faults (gate_named k (word_at x c.name)) c.name (λ g. call_faults x k at g c.args.items)
+named_call_faults x k at c = named_faults (gate_named k (word_at x c.name)) c.name (λ g. call_faults x k at g c.args)
 
 -- the faults of a statement that begins at a place
 abbrev pub faults : Lexed → Known → ℕ → Sentence → List (Option Stop)
 faults x k at sentences.Include = include_faults k at
 faults x k at (sentences.Qreg name size) = register_faults x k at name size ++ (broken TooMany (qubits_pass k (number_at x size)) at ∷ [])
 faults x k at (sentences.Creg name size) = register_faults x k at name size ++ (broken TooMany (bits_pass k (number_at x size)) at ∷ [])
-faults x k at (sentences.Gate name brackets formals body) = gate_faults x k at name formals.items body.items
+faults x k at (sentences.Gate name brackets formals body) = gate_faults x k at name formals body
 faults x k at (sentences.Call c) = named_call_faults x k at c
 faults x k at (sentences.If register value c) = if_faults x k at register c
-faults x k at (sentences.Cx args) = call_faults x k at cx args.items
+faults x k at (sentences.Cx args) = call_faults x k at cx args
 faults x k at (sentences.Measure from to) = measure_faults x k at from to
-faults x k at (sentences.Barrier args) = argument_faults x (quantum_named k) args.items
+faults x k at (sentences.Barrier args) = argument_faults x (quantum_named k) args
 faults x k at (sentences.Reset a) = argument_faults x (quantum_named k) (a ∷ [])

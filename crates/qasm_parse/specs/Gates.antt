@@ -49,7 +49,7 @@ built_in name =
     else if bytes_eq name (codes "tdg") then one ones.Tdg
     else larger_built_in name
 
--- a text may declare these itself, before or behind the include
+-- a text may declare these itself, before or after the include
 unfoldable pub may_be_own : List ℕ → Bool
 may_be_own name = bytes_eq name (codes "swap") || bytes_eq name (codes "sx") || bytes_eq name (codes "sxdg")
 

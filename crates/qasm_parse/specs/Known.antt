@@ -1,5 +1,5 @@
 -- What the statements so far make known, and what names mean by it.
-use Rattle.std.specs.Prelude.{ℕ, Bool, true, false, ◌+◌, ◌&&◌, ◌||◌, is_some, if◌then◌else◌, List, [], ◌∷◌, ◌++◌, position, slice_get, option_and_then, Option, Some, None}
+use Rattle.std.specs.Prelude.{ℕ, Bool, true, false, ◌&&◌, ◌||◌, is_some, if◌then◌else◌, List, [], ◌∷◌, ◌++◌, position, slice_get, option_and_then, Option, Some, None}
 use Rattle.std.specs.List.{list_any}
 use Rattle.std.specs.Str.{bytes_eq}
 use Rattle.qasm_parse.specs.Gates.{built_in, is_barred}
@@ -68,7 +68,7 @@ is_own_gate k name = is_gate (meaning_of k name)
 abbrev pub is_declared : Known → List ℕ → Bool
 is_declared k name = is_some (place_of k.names name) || (k.included && is_barred name)
 
--- an include can't stand here: it stands a second time, or behind the declaration of a name that it makes known or takes
+-- an include can't stand here: it stands a second time, or after the declaration of a name that it makes known or takes
 abbrev pub bars_include : Known → Bool
 bars_include k = k.included || list_any is_barred k.names
 

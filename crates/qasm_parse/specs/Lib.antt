@@ -1,7 +1,8 @@
-pub mod Forms
-pub mod Grammar
-pub mod Spelling
-pub mod Meaning
+pub use Rattle.qasm_grammar.specs.Forms
+pub use Rattle.qasm_grammar.specs.Grammar
+pub use Rattle.qasm_grammar.specs.Spelling
+pub use Rattle.qasm_grammar.specs.Meaning
+pub mod Refused
 pub mod Words
 pub mod Lexed
 pub mod Gates
@@ -11,4 +12,5 @@ pub mod Faults
 pub mod Meets
 pub mod Behind
 pub mod Pass
+pub mod Laws
 pub mod Rows

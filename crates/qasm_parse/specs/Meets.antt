@@ -1,13 +1,13 @@
 -- What was answered, against the rules that are broken.
 use Rattle.std.specs.Prelude.{◌≡◌, ℕ, List, Option, Some, None, Result, Ok, Err}
 use Rattle.qasm_lex.specs.declared.fault.FaultKind.TheVariants.{Unknown}
-use Rattle.qasm_parse.specs.declared.follow.Stop.{Stop}
-use Rattle.qasm_parse.specs.declared.follow.Fault.{Fault}
-use Rattle.qasm_parse.specs.declared.follow.Fault.TheVariants.{Memory, Stopping}
+use Rattle.qasm_parse.specs.declared.stop.Stop.{Stop}
+use Rattle.qasm_parse.specs.declared.stop.Fault.{Fault}
+use Rattle.qasm_parse.specs.declared.stop.Fault.TheVariants.{Memory, Stopping}
 use Rattle.qasm_parse.specs.declared.known.Called.{Called}
 use Rattle.qasm_parse.specs.Faults.{first_fault}
 
--- the first broken rule was answered, or this value where there is none; want of memory says nothing
+-- the first broken rule was answered, or this value where there is none; out of memory says nothing
 abbrev pub Meets : {X : Type 0} → Result X Fault → List (Option Stop) → X → Type 0
 Meets (Ok x) faults y = (first_fault faults ≡ None) × (x ≡ y)
 Meets (Err Memory) faults y = Unit {0}

@@ -1,32 +1,14 @@
 -- Worked examples.
-use Rattle.std.specs.Prelude.{◌≡◌, ℕ, true, false, ◌+◌, ◌++◌, List, [], ◌∷◌, codes, length, Some, Ok, Err}
-use Rattle.qasm_lex.specs.declared.fault.FaultKind.TheVariants.{Version, Syntax, Parameters, Unsupported, Unknown, Declared, Undeclared, Index, Sizes, SameQubit}
+use Rattle.std.specs.Prelude.{◌≡◌, ℕ, true, false, ◌+◌, ◌++◌, List, [], ◌∷◌, codes, length, Some}
+use Rattle.qasm_lex.specs.declared.fault.FaultKind.TheVariants.{Unknown, Declared, Undeclared, Index, Sizes, SameQubit}
 use Rattle.qasm_lex.specs.declared.Token.{Token}
 use Rattle.qasm_lex.specs.declared.TokenKind.TheVariants.{Word}
-use Rattle.qasm_parse.specs.declared.spoken.Argument.TheVariants as arguments
+use Rattle.qasm_grammar.specs.declared.spoken.Argument.TheVariants as arguments
 use Rattle.qasm_parse.specs.declared.known.Known.{Known}
 use Rattle.qasm_parse.specs.declared.known.Meaning.TheVariants.{Quantum, Classical}
-use Rattle.qasm_parse.specs.declared.terminal.Terminal.TheVariants.{Openqasm, Name, Measure, Arrow, Cx, Open, Close, OpenBracket, Semicolon, Include, Quoted}
-use Rattle.qasm_parse.specs.Forms.{reads}
-use Rattle.qasm_parse.specs.Grammar.{one_version, statement}
 use Rattle.qasm_parse.specs.Lexed.{Lexed}
 use Rattle.qasm_parse.specs.Known.{nothing_known, gate_named, is_declared, bars_include}
 use Rattle.qasm_parse.specs.Faults.{first_fault, named_faults, call_faults, measure_faults, head_faults, qubits_pass}
-
--- what the grammar refuses, and at which token
-pub record GrammarRows : Type 0 where
-  -- a text without the version
-  pub no_version : reads one_version (Openqasm ∷ Name ∷ []) 0 ≡ Err (record { at = 1; kind = Version })
-  -- `h q[` at the end of the text
-  pub at_the_end : reads statement (Name ∷ Name ∷ OpenBracket ∷ []) 7 ≡ Err (record { at = 10; kind = Syntax })
-  -- `rz(pi/4) q[0];`
-  pub parameters : reads statement (Name ∷ Open ∷ Name ∷ Close ∷ Name ∷ Semicolon ∷ []) 0 ≡ Err (record { at = 2; kind = Parameters })
-  -- `CX(` ..
-  pub after_cx : reads statement (Cx ∷ Open ∷ []) 0 ≡ Err (record { at = 1; kind = Syntax })
-  -- `include "other.inc"`, where the semicolon is missing
-  pub other_text : reads statement (Include ∷ Quoted ∷ []) 0 ≡ Err (record { at = 1; kind = Unsupported })
-  -- `measure q -> c; ..`
-  pub measured : reads statement (Measure ∷ Name ∷ Arrow ∷ Name ∷ Semicolon ∷ Name ∷ []) 0 ≡ Ok 5
 
 -- words one after another, a token each
 abbrev pub tokens_of_words : ℕ → List (List ℕ) → List Token
@@ -40,7 +22,7 @@ joined (w ∷ ws) = w ++ joined ws
 abbrev pub text_of : List (List ℕ) → Lexed
 text_of ws = record { text = joined ws; tokens = tokens_of_words 0 ws }
 
--- a quantum register `q` and a classical one `c` with two members each, behind the include
+-- a quantum register `q` and a classical one `c` with two members each, after the include
 abbrev pub two : Known
 two = record {
   included = true;
@@ -69,10 +51,10 @@ pub record NameRows : Type 0 where
   pub no_gate : first_fault (named_faults (gate_named two (codes "q")) 0 (λ g. call_faults some_words two 0 g [])) ≡ Some (record { at = 0; kind = Unknown })
   -- `measure q[1] -> c;`
   pub one_into_all : first_fault (measure_faults some_words two 0 (arguments.Single 1 2) (arguments.Whole 4)) ≡ Some (record { at = 0; kind = Sizes })
-  -- a text may declare `swap` itself, before the include and behind it, but not `h` behind it
+  -- a text may declare `swap` itself, before the include and after it, but not `h` after it
   pub own_swap : is_declared two (codes "swap") ≡ false
   pub own_h : is_declared two (codes "h") ≡ true
-  -- the include a second time, behind a gate `h`, and behind a gate `swap`
+  -- the include a second time, after a gate `h`, and after a gate `swap`
   pub second_include : bars_include two ≡ true
   pub behind_h : bars_include (record nothing_known { names = codes "h" ∷ [] }) ≡ true
   pub behind_swap : bars_include (record nothing_known { names = codes "swap" ∷ [] }) ≡ false

@@ -1,15 +1,12 @@
 -- What the grammar sees of a token.
-use Rattle.std.specs.Prelude.{◌≡◌, ℕ, Bool, ◌+◌, ◌==◌, ◌&&◌, ◌||◌, if◌then◌else◌, List, codes, length, slice_get, slice_index, slice_range, count_by, Some, None, Result, Ok, Err}
+use Rattle.std.specs.Prelude.{ℕ, Bool, ◌+◌, ◌==◌, ◌&&◌, ◌||◌, if◌then◌else◌, List, codes, slice_get, slice_index, slice_range, count_by, Some, None}
 use Rattle.std.specs.Str.{bytes_eq}
 use Rattle.qasm_lex.specs.Tokens.{is_within}
-use Rattle.qasm_lex.specs.declared.fault.CircuitFault.{CircuitFault}
-use Rattle.qasm_lex.specs.declared.fault.CircuitFault.TheVariants as circuits
-use Rattle.qasm_parse.specs.declared.follow.Stop.{Stop}
 use Rattle.qasm_lex.specs.declared.Token.{Token}
 use Rattle.qasm_lex.specs.declared.TokenKind.{TokenKind}
 use Rattle.qasm_lex.specs.declared.TokenKind.TheVariants as kinds
-use Rattle.qasm_parse.specs.declared.terminal.Terminal.{Terminal}
-use Rattle.qasm_parse.specs.declared.terminal.Terminal.TheVariants as terminals
+use Rattle.qasm_grammar.specs.declared.terminal.Terminal.{Terminal}
+use Rattle.qasm_grammar.specs.declared.terminal.Terminal.TheVariants as terminals
 
 -- words that are no names, and stand nowhere in the grammar
 unfoldable pub is_reserved : List ℕ → Bool
@@ -24,7 +21,7 @@ starts_name b = is_within 97 122 b || b == 95
 unfoldable pub is_pauli : List ℕ → Bool
 is_pauli word = bytes_eq word (codes "x") || bytes_eq word (codes "y") || bytes_eq word (codes "z") || bytes_eq word (codes "id")
 
--- names that are taken behind the include
+-- names that are taken after the include
 unfoldable pub is_taken : List ℕ → Bool
 is_taken word = bytes_eq word (codes "u1") || bytes_eq word (codes "u2") || bytes_eq word (codes "u3") || bytes_eq word (codes "rx") || bytes_eq word (codes "ry") || bytes_eq word (codes "rz") || bytes_eq word (codes "cu1") || bytes_eq word (codes "cu3") || bytes_eq word (codes "crz") || bytes_eq word (codes "ch")
 

@@ -8,19 +8,19 @@ ghost use Rattle.qasm_parse.specs.Meets.{Meets, Finds};
 ghost use Rattle.qasm_parse.specs.Faults.{repeated, informal, formal_of, body_call_faults, named_op_faults, body_faults, head_faults, gate_faults};
 ghost use Rattle.qasm_parse.specs.Behind.{gate_of, op_of, depth_of, with_gate};
 
-use crate::follow::{Fault, Stop};
 use crate::gates::cx;
 use crate::known::{Called, Known, Meaning};
 use crate::names::NameList;
 use crate::operands::has_twice;
 use crate::source::Source;
-use crate::spoken::BodyStatement;
-use crate::tree::{BodyOp, Callee, GateDef, Listed};
-use patch_base::{DEFINITIONS, DEPTH, FORMALS};
+use crate::stop::{Fault, Stop};
+use crate::tree::{BodyOp, Callee, GateDef};
+use patch_base::{DEFINITIONS, DEPTH, FORMALS, Listed};
+use qasm_grammar::BodyStatement;
 use qasm_lex::FaultKind;
 use std::alloc::Global;
 
-/// The formal names of a definition, none of them twice.
+// The formal names of a definition, none of them twice.
 fn formal_names(alloc: Global, source: &Source<'_>, formals: &[usize]) -> Result<NameList, Fault>
     ensures { Meets result (repeated source.now [] formals.now) (map (word_at source.now) formals.now) }
 {
@@ -40,7 +40,7 @@ fn formal_names(alloc: Global, source: &Source<'_>, formals: &[usize]) -> Result
     Ok(names)
 }
 
-/// The numbers of the formal names that are the arguments of a call.
+// The numbers of the formal names that are the arguments of a call.
 fn formal_numbers(
     alloc: Global,
     source: &Source<'_>,
@@ -63,7 +63,7 @@ fn formal_numbers(
     Ok(numbers)
 }
 
-/// Tries a call of a known gate in a body, in a statement that begins at a place.
+// Tries a call of a known gate in a body, in a statement that begins at a place.
 fn try_formals(
     alloc: Global,
     source: &Source<'_>,
@@ -101,7 +101,7 @@ fn try_formals(
     })
 }
 
-/// A call of a gate by its name in a body, and the gate's depth.
+// A call of a gate by its name in a body, and the gate's depth.
 fn named_op(
     alloc: Global,
     source: &Source<'_>,
@@ -119,7 +119,7 @@ fn named_op(
     Ok((op, called.depth))
 }
 
-/// A statement of a body, and the depth of the gate that it calls.
+// A statement of a body, and the depth of the gate that it calls.
 fn body_op(
     alloc: Global,
     source: &Source<'_>,
@@ -133,14 +133,14 @@ fn body_op(
 {
     match statement {
         BodyStatement::Call { name, formals, .. } => {
-            named_op(alloc, source, known, names, *name, formals)
+            named_op(alloc, source, known, names, *name, formals.as_slice())
         }
         BodyStatement::Cx { at, formals } => {
-            let op = try_formals(alloc, source, names, *at, cx(), formals)?;
+            let op = try_formals(alloc, source, names, *at, cx(), formals.as_slice())?;
             Ok((op, 0))
         }
         BodyStatement::Barrier { formals } => {
-            formal_numbers(alloc, source, names, formals)?;
+            formal_numbers(alloc, source, names, formals.as_slice())?;
             Ok((BodyOp::Barrier, 0))
         }
     }
@@ -166,7 +166,7 @@ fn greater(one: u32, other: u32) -> u32
     if one < other { other } else { one }
 }
 
-/// A body, and the greatest depth of the gates that it calls.
+// A body, and the greatest depth of the gates that it calls.
 fn body_ops(
     alloc: Global,
     source: &Source<'_>,
@@ -188,14 +188,14 @@ fn body_ops(
     Ok((ops, deepest))
 }
 
-/// Whether a definition with this number of formal names can't stand behind this number of definitions.
+// Whether a definition with this number of formal names can't stand after this number of definitions.
 fn too_many(defined: usize, formals: usize) -> bool
     ensures { result ≡ (nat_le 1024 defined || nat_lt 64 formals) }
 {
     defined >= DEFINITIONS as usize || formals > FORMALS as usize
 }
 
-/// Tries the head of a definition that begins at a place, and gives its formal names.
+// Tries the head of a definition that begins at a place, and gives its formal names.
 fn head(
     alloc: Global,
     source: &Source<'_>,

@@ -4,8 +4,8 @@ ghost use Rattle.std.specs.Prelude.{◌≡◌};
 ghost use Rattle.qasm_parse.specs.Gates.{built, one, two, cx, built_in, larger_built_in, may_be_own, is_barred, pauli_of};
 
 use crate::known::Called;
-use crate::terminal::is_taken;
 use crate::tree::{Callee, Gate1, Gate2};
+use crate::words::is_taken;
 
 fn one(gate: Gate1) -> Option<Called>
     ensures { result ≡ one gate }
@@ -109,7 +109,7 @@ fn larger_built_in(name: &[u8]) -> Option<Called>
     None
 }
 
-/// Whether a text may declare a name itself, though the include makes it known.
+// Whether a text may declare a name itself, though the include makes it known.
 #[tactic(auto, unfolding(crate::specs::Gates::may_be_own))]
 fn may_be_own(name: &[u8]) -> bool
     ensures { result ≡ may_be_own name.now }

@@ -6,8 +6,8 @@ ghost use Rattle.qasm_parse.specs.Known.{nothing_known, place_of, meaning_of, qu
 
 use crate::gates::{built_in, is_barred};
 use crate::names::NameList;
-use crate::tree::{Callee, Listed, Tree};
-use patch_base::Memory;
+use crate::tree::{Callee, Tree};
+use patch_base::{Listed, Memory};
 use std::alloc::Global;
 use std::marker::Model;
 
@@ -169,7 +169,7 @@ impl Known {
         self.names.find(name).is_some() || (self.included && is_barred(name))
     }
 
-    /// Whether an include can't stand behind what is known.
+    /// Whether an include can't stand after what is known.
     pub fn bars_include(&self) -> bool
         ensures { result ≡ bars_include self.now }
     {

@@ -10,38 +10,34 @@ ghost use Rattle.qasm_lex.specs.Tokens.{tokens_of};
 ghost use Rattle.qasm_parse.specs.Pass.{Parses, ReadsAll, terminals};
 
 mod definitions;
-mod follow;
 mod gates;
 mod known;
-mod laws;
+mod law;
 mod names;
 mod operands;
-mod productions;
 mod source;
-mod spoken;
-mod terminal;
-#[cfg(test)]
-mod tests;
+mod stop;
 mod tree;
 mod trying;
+mod words;
 
-pub use follow::Stop;
-use follow::{Fault, version};
 use known::{Known, nothing_known};
-pub use laws::{
-    law_grammar, law_grammar_rows, law_name_rows, law_one_fault, law_one_tree, law_read, law_stop,
-    law_tree_or_fault,
-};
+pub use law::{law_answer, law_name_rows, law_one_fault, law_one_tree, law_tree_or_fault};
+pub use patch_base::Listed;
 use patch_base::Memory;
-use productions::next_statement;
+pub use qasm_grammar::{
+    Terminal, law_grammar, law_grammar_rows, law_one_sentence, law_read, law_stop,
+};
+use qasm_grammar::{next_statement, version};
 use qasm_lex::{CircuitFault, Token};
 use source::Source;
 use std::alloc::Global;
-pub use terminal::Terminal;
-pub use tree::{Arg, BodyOp, Callee, Declared, Gate1, Gate2, GateDef, Listed, Statement, Tree};
+use stop::Fault;
+pub use stop::Stop;
+pub use tree::{Arg, BodyOp, Callee, Declared, Gate1, Gate2, GateDef, Statement, Tree};
 use trying::try_sentence;
 
-/// What the grammar sees of a text, where an include may have been read since it was last asked.
+// What the grammar sees of a text, where an include may have been read since it was last asked.
 fn refreshed(
     alloc: Global,
     source: &Source<'_>,
@@ -58,7 +54,7 @@ fn refreshed(
     source.terminals(alloc, included)
 }
 
-/// Reads a text from its tokens, and gives all that its statements make known.
+// Reads a text from its tokens, and gives all that its statements make known.
 fn read(alloc: Global, source: &Source<'_>) -> Result<Known, Fault>
     ensures { ReadsAll source.now result }
 {

@@ -7,12 +7,12 @@ ghost use Rattle.qasm_parse.specs.Known.{quantum_named};
 ghost use Rattle.qasm_parse.specs.Meets.{Meets};
 ghost use Rattle.qasm_parse.specs.Faults.{first_fault, name_place, past_end, meant, argument_faults, all_meant, times, has_size, meets, any_pair, call_faults};
 
-use crate::follow::{Fault, Stop};
 use crate::known::{Called, Known, Span};
 use crate::source::Source;
-use crate::spoken::Argument;
-use crate::tree::{Arg, Listed};
-use patch_base::Memory;
+use crate::stop::{Fault, Stop};
+use crate::tree::Arg;
+use patch_base::{Listed, Memory};
+use qasm_grammar::Argument;
 use qasm_lex::FaultKind;
 use std::alloc::Global;
 
@@ -91,7 +91,7 @@ pub fn resolve(
     }
 }
 
-/// Adds what an argument means, unless an index is past its end, and gives the first such index.
+// Adds what an argument means, unless an index is past its end, and gives the first such index.
 #[tactic(auto, unfolding(crate::specs::Faults::first_fault))]
 fn add_meant(
     source: &Source<'_>,
@@ -114,7 +114,7 @@ fn add_meant(
     Ok(now)
 }
 
-/// How often a call is applied: for each index of its whole registers, and once where it has none.
+// How often a call is applied: for each index of its whole registers, and once where it has none.
 fn times(args: &[Arg]) -> u32
     ensures { result ≡ times args.now }
 {
@@ -126,7 +126,7 @@ fn times(args: &[Arg]) -> u32
     1
 }
 
-/// Whether an argument is no whole register of another size.
+// Whether an argument is no whole register of another size.
 fn has_size(arg: &Arg, times: u32) -> bool
     ensures { result ≡ has_size times arg.now }
 {
@@ -136,28 +136,28 @@ fn has_size(arg: &Arg, times: u32) -> bool
     }
 }
 
-/// Whether the whole registers among arguments have this size.
+// Whether the whole registers among arguments have this size.
 fn are_equal(times: u32, args: &[Arg]) -> bool
     ensures { result ≡ list_all (has_size times) args.now }
 {
     args.iter().all(|arg| has_size(arg, times))
 }
 
-/// Whether two numbers are one, at some index.
+// Whether two numbers are one, at some index.
 fn is_same(times: u32, one: u32, other: u32) -> bool
     ensures { result ≡ (nat_lt 0 times && one == other) }
 {
     0 < times && one == other
 }
 
-/// Whether a number is that of a register's member at some index.
+// Whether a number is that of a register's member at some index.
 fn is_member(times: u32, first: u32, index: u32) -> bool
     ensures { result ≡ (nat_le first index && nat_lt (index - first) times) }
 {
     first <= index && index - first < times
 }
 
-/// Whether two arguments mean one qubit where the call is applied to some index.
+// Whether two arguments mean one qubit where the call is applied to some index.
 fn meets(times: u32, one: &Arg, other: &Arg) -> bool
     ensures { result ≡ meets times one.now other.now }
 {
@@ -177,7 +177,7 @@ fn meets_any(times: u32, one: &Arg, others: &[Arg]) -> bool
     others.iter().any(|other| meets(times, one, other))
 }
 
-/// Whether two of the arguments mean one qubit where the call is applied to some index.
+// Whether two of the arguments mean one qubit where the call is applied to some index.
 fn meets_itself(times: u32, args: &[Arg]) -> bool
     ensures { result ≡ any_pair (meets times) args.now }
 {

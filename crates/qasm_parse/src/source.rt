@@ -5,8 +5,9 @@ ghost use Rattle.qasm_parse.specs.Words.{terminal_of};
 ghost use Rattle.qasm_parse.specs.Lexed.{AllPlaced, word_at, number_at, line_of, start_of, end_of};
 ghost use Rattle.qasm_parse.specs.Pass.{terminals};
 
-use crate::terminal::{Terminal, make_terminal};
+use crate::words::make_terminal;
 use patch_base::{Memory, decimal};
+use qasm_grammar::Terminal;
 use qasm_lex::Token;
 use std::alloc::Global;
 use std::marker::Model;
@@ -37,7 +38,7 @@ impl<'t> Source<'t> {
         Source { text, tokens }
     }
 
-    /// What the grammar sees of the tokens, before the include or behind it.
+    /// What the grammar sees of the tokens, before the include or after it.
     pub fn terminals(&self, alloc: Global, included: bool) -> Result<Vec<Terminal>, Memory>
         ensures { IfOk result (λ v. v.items ≡ terminals self.now included) }
     {

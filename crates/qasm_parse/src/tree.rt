@@ -1,66 +1,6 @@
 //! The tree of a circuit text: its statements in order, with all names resolved to numbers.
 
-ghost use Rattle.std.specs.Prelude.{◌≡◌, ◌++◌, ◌∷◌, [], OnOk};
-
-use patch_base::Memory;
-use std::alloc::Global;
-use std::marker::Model;
-
-/// A list, which contracts see as one.
-#[derive(Debug, Drop)]
-pub struct Listed<T> {
-    items: Vec<T>,
-}
-
-impl<T> Model for Listed<T> {
-    ghost use Rattle.std.specs.Prelude.{List};
-
-    ghost Value = { List T };
-
-    ghost view = { λ s. s.items.items };
-}
-
-impl<T> Listed<T> {
-    /// A list without items.
-    pub fn new(alloc: Global) -> Listed<T>
-        ensures { result ≡ [] }
-    {
-        Listed {
-            items: Vec::new(alloc),
-        }
-    }
-
-    /// The list of these items.
-    pub fn of(items: Vec<T>) -> Listed<T>
-        ensures { result ≡ items.items }
-    {
-        Listed { items }
-    }
-
-    /// The items, given back.
-    pub fn into_vec(self) -> Vec<T>
-        ensures { result.items ≡ self }
-    {
-        self.items
-    }
-
-    /// Appends an item.
-    pub fn push(&mut self, item: T) -> Result<(), Memory>
-    where
-        T: Drop,
-        ensures { OnOk result (self.new ≡ self.old ++ item ∷ []) }
-    {
-        self.items.push(item)?;
-        Ok(())
-    }
-
-    /// The items, in the list's order.
-    pub fn as_slice(&self) -> &[T]
-        ensures { result.now ≡ self.now }
-    {
-        self.items.as_slice()
-    }
-}
+use patch_base::Listed;
 
 /// A gate on one qubit.
 #[derive(Clone, Copy, Debug, PartialEq, Eq)]

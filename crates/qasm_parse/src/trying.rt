@@ -1,6 +1,6 @@
 //! Trying the names of a statement.
 
-ghost use Rattle.std.specs.Prelude.{◌≡◌, true, None, IfOk};
+ghost use Rattle.std.specs.Prelude.{◌≡◌, ◌≤◌, ◌+◌, ◌||◌, nat_le, nat_lt, true, false, None, IfOk};
 ghost use Rattle.qasm_parse.specs.Meets.{Meets, IsOnly};
 ghost use Rattle.qasm_parse.specs.Faults.{include_faults, register_faults, faults, fit_together};
 ghost use Rattle.qasm_parse.specs.Known.{place_of};
@@ -8,18 +8,18 @@ ghost use Rattle.qasm_parse.specs.Lexed.{word_at, number_at};
 ghost use Rattle.qasm_parse.specs.Behind.{behind, declared_at, with_statement, first_of};
 
 use crate::definitions::{define, find_gate};
-use crate::follow::{Fault, Stop};
 use crate::gates::{cx, pauli_of};
 use crate::known::{Known, Meaning, Span};
 use crate::operands::{meant, name_place, past_end, resolve, try_args};
 use crate::source::Source;
-use crate::spoken::{Argument, GateCall, Sentence};
+use crate::stop::{Fault, Stop};
 use crate::tree::{Arg, Declared, Statement};
 use patch_base::{BITS, QUBITS, REGISTERS};
+use qasm_grammar::{Argument, GateCall, Sentence};
 use qasm_lex::FaultKind;
 use std::alloc::Global;
 
-/// Tries an include that begins at a place.
+// Tries an include that begins at a place.
 fn include(mut known: Known, at: usize) -> Result<Known, Fault>
     ensures { Meets result (include_faults known at) (record known { included = true }) }
 {
@@ -33,7 +33,7 @@ fn include(mut known: Known, at: usize) -> Result<Known, Fault>
     Ok(known)
 }
 
-/// Tries the name and the size of a register, and gives the size.
+// Tries the name and the size of a register, and gives the size.
 fn register(
     source: &Source<'_>,
     known: &Known,
@@ -60,7 +60,7 @@ fn register(
     Ok(members)
 }
 
-/// The span of a register's name, with its numbers.
+// The span of a register's name, with its numbers.
 fn declared(source: &Source<'_>, name: usize, span: Span) -> Declared
     ensures { result ≡ declared_at source.now name span.first span.size }
 {
@@ -72,7 +72,7 @@ fn declared(source: &Source<'_>, name: usize, span: Span) -> Declared
     }
 }
 
-/// Tries a quantum register's declaration that begins at a place.
+// Tries a quantum register's declaration that begins at a place.
 fn quantum(
     alloc: Global,
     source: &Source<'_>,
@@ -100,7 +100,15 @@ fn quantum(
     Ok(known)
 }
 
-/// Tries a classical register's declaration that begins at a place.
+// Whether a register of so many bits is too much after so many registers and bits.
+fn too_many_bits(registers: usize, bits: u32, members: u32) -> bool
+    ensures value { result ≡ (nat_le 64 registers || nat_lt 16384 (bits + members)) }
+    ensures few { result ≡ false → bits + members ≤ 16384 }
+{
+    registers >= REGISTERS as usize || bits as u64 + members as u64 > BITS as u64
+}
+
+// Tries a classical register's declaration that begins at a place.
 fn classical(
     alloc: Global,
     source: &Source<'_>,
@@ -112,8 +120,7 @@ fn classical(
     ensures { Meets result (faults source.now known at (Sentence.Creg name size)) (behind source.now known at (Sentence.Creg name size)) }
 {
     let members = register(source, &known, at, name, size)?;
-    let registers = known.tree.classical.as_slice().len();
-    if registers >= REGISTERS as usize || known.bits as u64 + members as u64 > BITS as u64 {
+    if too_many_bits(known.tree.classical.as_slice().len(), known.bits, members) {
         return Err(Fault::Stopping(Stop {
             at,
             kind: FaultKind::TooMany,
@@ -129,7 +136,7 @@ fn classical(
     Ok(known)
 }
 
-/// Tries a call of a gate by its name.
+// Tries a call of a gate by its name.
 fn named_call(
     alloc: Global,
     source: &Source<'_>,
@@ -140,7 +147,7 @@ fn named_call(
     ensures { Meets result (faults source.now known at (Sentence.Call call.now)) (behind source.now known at (Sentence.Call call.now)) }
 {
     let called = find_gate(source, &known, call.name)?;
-    let args = try_args(alloc, source, &known, at, called, &call.args)?;
+    let args = try_args(alloc, source, &known, at, called, call.args.as_slice())?;
     let statement = Statement::Call {
         line: source.line(at),
         gate: called.gate,
@@ -149,7 +156,7 @@ fn named_call(
     added(known, statement)
 }
 
-/// Tries a call under a condition.
+// Tries a call under a condition.
 fn conditional(
     alloc: Global,
     source: &Source<'_>,
@@ -176,7 +183,7 @@ fn conditional(
             kind: FaultKind::Undeclared,
         })),
     };
-    let args = try_args(alloc, source, &known, at, called, &call.args)?;
+    let args = try_args(alloc, source, &known, at, called, call.args.as_slice())?;
     let statement = Statement::If {
         line: source.line(at),
         first: bits.first,
@@ -188,28 +195,33 @@ fn conditional(
     added(known, statement)
 }
 
-/// The first argument of a call.
+// The first argument of a call.
 fn first_arg(args: &[Arg]) -> Arg
     ensures { result ≡ first_of args.now }
 {
-    match args.first() {
-        Some(arg) => *arg,
-        None => Arg::Single { index: 0 },
+    if args.is_empty() {
+        return Arg::Single { index: 0 };
     }
+    args[0]
 }
 
-/// Whether a measurement's sides fit together: both single, or both whole and of one size.
+// Whether a measurement's sides fit together: both single, or both whole and of one size.
 fn fit_together(from: Arg, to: Arg) -> bool
     ensures { result ≡ fit_together from to }
 {
-    match (from, to) {
-        (Arg::Whole { size, .. }, Arg::Whole { size: bits, .. }) => size == bits,
-        (Arg::Single { .. }, Arg::Single { .. }) => true,
-        _ => false,
+    match from {
+        Arg::Whole { size, .. } => match to {
+            Arg::Whole { size: bits, .. } => size == bits,
+            Arg::Single { .. } => false,
+        },
+        Arg::Single { .. } => match to {
+            Arg::Whole { .. } => false,
+            Arg::Single { .. } => true,
+        },
     }
 }
 
-/// Tries a measurement.
+// Tries a measurement.
 fn measure(
     source: &Source<'_>,
     known: Known,
@@ -263,13 +275,13 @@ fn measure(
     added(known, statement)
 }
 
-/// Tries a call of `CX`.
+// Tries a call of `CX`.
 fn cx_call(
     alloc: Global,
     source: &Source<'_>,
     known: Known,
     at: usize,
-    args: &Vec<Argument>,
+    args: &[Argument],
 ) -> Result<Known, Fault>
     ensures { Meets result (faults source.now known at (Sentence.Cx args.now)) (behind source.now known at (Sentence.Cx args.now)) }
 {
@@ -282,13 +294,13 @@ fn cx_call(
     added(known, statement)
 }
 
-/// Tries a barrier. It orders nothing, and may name one qubit twice.
+// Tries a barrier. It orders nothing, and may name one qubit twice.
 fn barrier(
     alloc: Global,
     source: &Source<'_>,
     known: Known,
     at: usize,
-    args: &Vec<Argument>,
+    args: &[Argument],
 ) -> Result<Known, Fault>
     ensures { Meets result (faults source.now known at (Sentence.Barrier args.now)) (behind source.now known at (Sentence.Barrier args.now)) }
 {
@@ -299,7 +311,7 @@ fn barrier(
     added(known, statement)
 }
 
-/// Tries a reset.
+// Tries a reset.
 fn reset(
     alloc: Global,
     source: &Source<'_>,
@@ -317,7 +329,7 @@ fn reset(
     added(known, statement)
 }
 
-/// Appends a statement to the tree.
+// Appends a statement to the tree.
 fn added(mut known: Known, statement: Statement) -> Result<Known, Fault>
     ensures { IsOnly result (with_statement known statement) }
 {
@@ -325,7 +337,7 @@ fn added(mut known: Known, statement: Statement) -> Result<Known, Fault>
     Ok(known)
 }
 
-/// Tries a statement that begins at a place, and gives what is known behind it.
+/// Tries a statement that begins at a place, and gives what is known after it.
 pub fn try_sentence(
     alloc: Global,
     source: &Source<'_>,
@@ -344,16 +356,24 @@ pub fn try_sentence(
             formals,
             body,
             ..
-        } => define(alloc, source, known, at, *name, formals, body),
+        } => define(
+            alloc,
+            source,
+            known,
+            at,
+            *name,
+            formals.as_slice(),
+            body.as_slice(),
+        ),
         Sentence::Call { call } => named_call(alloc, source, known, at, call),
         Sentence::If {
             register,
             value,
             call,
         } => conditional(alloc, source, known, at, *register, *value, call),
-        Sentence::Cx { args } => cx_call(alloc, source, known, at, args),
+        Sentence::Cx { args } => cx_call(alloc, source, known, at, args.as_slice()),
         Sentence::Measure { from, to } => measure(source, known, at, *from, *to),
-        Sentence::Barrier { args } => barrier(alloc, source, known, at, args),
+        Sentence::Barrier { args } => barrier(alloc, source, known, at, args.as_slice()),
         Sentence::Reset { arg } => reset(alloc, source, known, at, *arg),
     }
 }

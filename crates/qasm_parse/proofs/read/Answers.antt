@@ -1,7 +1,7 @@
-use Rattle.std.proofs.Common.{◌≡◌, ℕ, drop, refl, sym, ap, ◌∙◌}
+use Rattle.std.proofs.Common.{refl}
 use Rattle.std.proofs.lemmas.Result.{err_from_is_err_and}
-use Rattle.qasm_parse.specs.Forms.{done}
-use Rattle.qasm_parse.proofs.Passing.{Standing, version_stops, standing_first, standing_next, standing_stops, standing_breaks, standing_last, standing_left}
+use Rattle.qasm_grammar.specs.Forms.{done}
+use Rattle.qasm_parse.proofs.Passing.{version_stops, standing_first, standing_next, standing_stops, standing_breaks, standing_last}
 use Rattle.qasm_parse.proofs.read.Goals as goal
 
 pub returns-in_err-at : goal.returns-in_err-at

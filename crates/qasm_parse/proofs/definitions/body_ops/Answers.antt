@@ -1,8 +1,7 @@
-use Rattle.std.proofs.Common.{◌≡◌, ℕ, map, List, [], ◌∷◌, ◌++◌, get_or, ◌+◌, max, fold, take, take_all, sym, ap, ◌∙◌, refl, arith}
+use Rattle.std.proofs.Common.{◌≡◌, map, List, [], ◌∷◌, ◌++◌, get_or, ◌+◌, max, fold, take, take_all, sym, ap, ◌∙◌, refl, arith}
 use Rattle.std.specs.List.{flat_map}
 use Rattle.std.proofs.lemmas.Result.{err_from_is_err_and}
-use Rattle.qasm_parse.specs.declared.spoken.BodyStatement.{BodyStatement}
-use Rattle.qasm_parse.specs.declared.tree.BodyOp.{BodyOp}
+use Rattle.qasm_grammar.specs.declared.spoken.BodyStatement.{BodyStatement}
 use Rattle.qasm_parse.specs.Faults.{first_fault, body_faults}
 use Rattle.qasm_parse.specs.Behind.{op_of, depth_of}
 use Rattle.qasm_parse.proofs.First.{first_none, first_flat_more}
@@ -35,7 +34,7 @@ loop-statement-preserved c =
     record {
       faultless = first_flat_more (body_faults x k ns) body i a c.loop-statement-test.true c.loop-statement.invariant.faultless (ap (λ (b : BodyStatement). first_fault (body_faults x k ns b)) (sym c.statement-item.is) ∙ v.0);
       made =
-          c.in_ok-push.ensures
+          c.in_ok-push.ensures.ok
           ∙ (λ j. c.loop-statement.invariant.made j ++ (v.1 j).0 ∷ [])
           ∙ ap (λ (b : BodyStatement). map (op_of x k ns) (take i body) ++ op_of x k ns b ∷ []) c.statement-item.is
           ∙ sym (map_more (op_of x k ns) body i a c.loop-statement-test.true);

@@ -45,7 +45,7 @@ returns c =
     let named : c.declare.new.self ≡ with_name k (word_at x c.args.name) (Gate (record { gate = Defined (length k.tree.gates); arity = length c.args.formals.now; depth = 1 + fold max 0 (map (depth_of x k) body) })) =
     c.in_ok-declare.ensures ∙ (λ i. with_name k (c.word.ensures i) (Gate (record { gate = Defined (number i); arity = length c.args.formals.now; depth = depth i }))) in
     let pushed : c.push.new.self ≡ k.tree.gates ++ record { formals = length c.args.formals.now; body = map (op_of x k ns) body } ∷ [] =
-    c.in_ok-push.ensures ∙ (λ i. (named i).tree.gates ++ record { formals = length c.args.formals.now; body = ops i } ∷ []) in (
+    c.in_ok-push.ensures.ok ∙ (λ i. (named i).tree.gates ++ record { formals = length c.args.formals.now; body = ops i } ∷ []) in (
       first_behind (head_faults x k c.args.at c.args.name c.args.formals.now) (flat_map (body_faults x k ns) body) c.in_ok-names.ensures.value.0
           ∙ ap (λ (ms : List (List ℕ)). first_fault (flat_map (body_faults x k ms) body)) (sym names)
           ∙ c.in_ok-ops.ensures.value.0,

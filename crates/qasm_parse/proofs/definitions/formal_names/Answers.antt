@@ -1,8 +1,7 @@
-use Rattle.std.proofs.Common.{◌≡◌, ℕ, List, [], ◌∷◌, ◌++◌, map, sym, ap, ◌∙◌, take_all, take, drop, length}
-use Rattle.qasm_parse.specs.Lexed.{word_at}
+use Rattle.std.proofs.Common.{ℕ, List, [], ◌∷◌, ◌++◌, sym, ap, ◌∙◌}
 use Rattle.qasm_parse.specs.Known.{place_of}
 use Rattle.qasm_parse.specs.Faults.{first_fault, repeated}
-use Rattle.qasm_parse.proofs.Formals.{Fresh, fresh_stop, fresh_step, fresh_all}
+use Rattle.qasm_parse.proofs.Formals.{fresh_stop, fresh_step, fresh_all}
 use Rattle.qasm_parse.proofs.definitions.formal_names.Goals as goal
 
 pub loop-formal-init : goal.loop-formal-init

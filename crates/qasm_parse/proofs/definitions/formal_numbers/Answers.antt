@@ -1,8 +1,8 @@
-use Rattle.std.proofs.Common.{◌≡◌, ℕ, List, [], map, sym, ap, ◌∙◌, take_all, take}
+use Rattle.std.proofs.Common.{◌≡◌, ℕ, List, map, sym, ap, ◌∙◌, take_all, take}
 use Rattle.qasm_parse.specs.Known.{place_of}
 use Rattle.qasm_parse.specs.Faults.{first_fault, informal, formal_of}
 use Rattle.qasm_parse.proofs.First.{first_none}
-use Rattle.qasm_parse.proofs.Formals.{Numbered, numbered_stop, numbered_step}
+use Rattle.qasm_parse.proofs.Formals.{numbered_stop, numbered_step}
 use Rattle.qasm_parse.proofs.definitions.formal_numbers.Goals as goal
 
 pub loop-arg-init : goal.loop-arg-init
@@ -17,7 +17,7 @@ pub loop-arg-preserved : goal.loop-arg-preserved
 loop-arg-preserved c =
     numbered_step c.args.source.now c.args.names.now c.args.args.now c.loop-arg.numbers c.push.new.self c.loop-arg.arg-index 0 c.in-Some.place c.loop-arg-test.true c.loop-arg.invariant
     (ap (place_of c.args.names.now) (sym c.word.ensures) ∙ sym c.in-Some.ensures.value)
-    c.in_ok-push-in-Some.ensures
+    c.in_ok-push-in-Some.ensures.ok
 
 pub returns : goal.returns
 returns c =

@@ -1,10 +1,10 @@
-use Rattle.std.proofs.Common.{◌≡◌, ℕ, true, false, length, map, [], ◌∷◌, ◌++◌, sym, ap, ◌∙◌, refl}
+use Rattle.std.proofs.Common.{◌≡◌, ℕ, false, length, map, [], sym, ap, ◌∙◌}
 use Rattle.std.specs.Prelude.{nat_le, nat_lt, ◌||◌}
 use Rattle.std.proofs.lemmas.Result.{err_from_is_err_and}
 use Rattle.qasm_lex.specs.declared.fault.FaultKind.TheVariants.{Declared, TooMany}
 use Rattle.qasm_parse.specs.Lexed.{word_at}
 use Rattle.qasm_parse.specs.Known.{is_declared}
-use Rattle.qasm_parse.specs.Faults.{first_fault, repeated, broken, head_faults}
+use Rattle.qasm_parse.specs.Faults.{repeated, head_faults}
 use Rattle.qasm_parse.proofs.First.{first_none}
 use Rattle.qasm_parse.proofs.Broken.{rule_is, rule_not, first_this, first_past, meets_front, meets_same}
 use Rattle.qasm_parse.proofs.definitions.head.Goals as goal

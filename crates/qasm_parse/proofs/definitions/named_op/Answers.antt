@@ -1,7 +1,6 @@
-use Rattle.std.proofs.Common.{◌≡◌, ℕ, Some, map, sym, ap, ◌∙◌}
+use Rattle.std.proofs.Common.{◌≡◌, map, sym, ap, ◌∙◌}
 use Rattle.std.proofs.lemmas.Result.{err_from_is_err_and}
 use Rattle.qasm_parse.specs.declared.known.Called.{Called}
-use Rattle.qasm_parse.specs.declared.tree.BodyOp.{BodyOp}
 use Rattle.qasm_parse.specs.declared.tree.BodyOp.TheVariants as ops
 use Rattle.qasm_parse.specs.Lexed.{word_at}
 use Rattle.qasm_parse.specs.Gates.{cx}

@@ -1,4 +1,4 @@
-use Rattle.std.proofs.Common.{◌≡◌, ℕ, Bool, true, false, [], nat_eq, length, map, refl, sym, ap, ◌∙◌, arith}
+use Rattle.std.proofs.Common.{◌≡◌, true, false, [], nat_eq, length, map, sym, ap, ◌∙◌}
 use Rattle.std.proofs.lemmas.Result.{err_from_is_err_and}
 use Rattle.qasm_lex.specs.declared.fault.FaultKind.TheVariants.{Arity, SameQubit, TooMany}
 use Rattle.qasm_parse.specs.declared.tree.BodyOp.TheVariants as ops

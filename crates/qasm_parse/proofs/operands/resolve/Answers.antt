@@ -1,11 +1,10 @@
-use Rattle.std.proofs.Common.{◌≡◌, ℕ, None, Some, List, length, refl, sym, ap, ◌∙◌, arith, get_or, take, take_all}
-use Rattle.qasm_parse.specs.declared.spoken.Argument.{Argument}
-use Rattle.qasm_parse.specs.declared.spoken.Argument.TheVariants.{Whole}
-use Rattle.qasm_parse.specs.declared.follow.Stop.{Stop}
+use Rattle.std.proofs.Common.{◌≡◌, ℕ, None, Some, sym, ap, ◌∙◌, get_or, take, take_all}
+use Rattle.qasm_grammar.specs.declared.spoken.Argument.TheVariants.{Whole}
+use Rattle.qasm_parse.specs.declared.stop.Stop.{Stop}
 use Rattle.qasm_lex.specs.declared.fault.FaultKind.TheVariants.{Undeclared}
 use Rattle.qasm_parse.specs.Lexed.{word_at}
 use Rattle.qasm_parse.specs.Known.{quantum_named}
-use Rattle.qasm_parse.specs.Faults.{register_of, name_place}
+use Rattle.qasm_parse.specs.Faults.{register_of}
 use Rattle.qasm_parse.proofs.First.{first_none}
 use Rattle.qasm_parse.proofs.Arguments.{Resolved, resolved_stop, resolved_step, resolved_past, resolved_all}
 use Rattle.qasm_parse.proofs.operands.resolve.Goals as goal

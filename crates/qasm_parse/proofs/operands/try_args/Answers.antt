@@ -1,9 +1,9 @@
-use Rattle.std.proofs.Common.{◌≡◌, ℕ, Bool, true, false, [], length, refl, sym, ap, ◌∙◌}
+use Rattle.std.proofs.Common.{◌≡◌, ℕ, true, false, [], length, sym, ap, ◌∙◌}
 use Rattle.std.specs.List.{list_all}
 use Rattle.std.proofs.lemmas.Result.{err_from_is_err_and}
 use Rattle.qasm_lex.specs.declared.fault.FaultKind.TheVariants.{Arity, Sizes, SameQubit}
 use Rattle.qasm_parse.specs.Known.{quantum_named}
-use Rattle.qasm_parse.specs.Faults.{argument_faults, all_meant, are_equal, meets_itself, meets, any_pair, has_size, times}
+use Rattle.qasm_parse.specs.Faults.{argument_faults, all_meant, are_equal, meets_itself, meets, any_pair, has_size}
 use Rattle.qasm_parse.proofs.First.{first_none}
 use Rattle.qasm_parse.proofs.Broken.{first_this, first_past, rule_is, rule_not, differs, agrees, negated, affirmed, meets_front}
 use Rattle.qasm_parse.proofs.operands.try_args.Goals as goal

@@ -34,7 +34,7 @@ returns c =
     let named : c.declare.new.self ≡ with_name k (word_at x c.args.name) (Quantum (record { first = k.qubits; size = number_at x c.args.size })) =
     c.in_ok-declare.ensures ∙ (λ i. with_name k (c.word.ensures i) (Quantum (record { first = k.qubits; size = size i }))) in
     let pushed : c.push.new.self ≡ k.tree.quantum ++ declared_at x c.args.name k.qubits (number_at x c.args.size) ∷ [] =
-    c.in_ok-push.ensures ∙ (λ i. (named i).tree.quantum ++ (c.declared.ensures ∙ ap (declared_at x c.args.name k.qubits) size) i ∷ []) in
+    c.in_ok-push.ensures.ok ∙ (λ i. (named i).tree.quantum ++ (c.declared.ensures ∙ ap (declared_at x c.args.name k.qubits) size) i ∷ []) in
     let fine : qubits_pass k (number_at x c.args.size) ≡ false = ap (λ (n : ℕ). nat_lt 1024 (c.args.known.qubits + n)) (sym c.in_ok-members.ensures.value.1) ∙ stays 1024 (c.args.known.qubits + c.in_ok-members.members) c.if-known-members.false in (
       first_past (register_faults x k c.args.at c.args.name c.args.size) TooMany _ c.args.at [] c.in_ok-members.ensures.value.0 fine ∙ first_none,
       λ i. declared_quantum (named i) (pushed i) (size i),

@@ -1,0 +1,9 @@
+pub mod Steps
+pub mod Spelled
+pub mod Starts
+pub mod Files
+pub mod Allowed
+pub mod Making
+pub mod Sole
+pub mod OneSentence
+pub mod Laws

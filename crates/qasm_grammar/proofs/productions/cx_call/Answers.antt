@@ -1,0 +1,46 @@
+use Rattle.std.proofs.Common.{◌∙◌, ◌++◌, ◌∷◌, [], refl}
+use Rattle.std.proofs.lemmas.Result.{err_from_is_err_and}
+use Rattle.qasm_grammar.specs.declared.terminal.Terminal.TheVariants.{Cx, Semicolon, Comma, OpenBracket}
+use Rattle.qasm_grammar.specs.Forms.{Form, one, both, ◌⨾◌, ◌or◌, next, may_end, Follows}
+use Rattle.qasm_grammar.specs.Grammar.{arg, args, brackets, cx_call}
+use Rattle.qasm_grammar.specs.Spelling.{fixed, args_text}
+use Rattle.qasm_grammar.proofs.Steps.{stopped_along}
+use Rattle.qasm_grammar.proofs.Spelled.{spells_more}
+use Rattle.qasm_grammar.proofs.productions.cx_call.Goals as goal
+
+abbrev closing : Form → Form
+closing k = both (one Semicolon) k
+
+abbrev listing : Form → Form
+listing k = args ⨾ closing k
+
+closes : (k : Form) → Follows (closing k) (OpenBracket ∷ Comma ∷ [])
+unfolding next may_end ◌⨾◌ ◌or◌ arg args brackets cx_call
+closes k = record { lives = refl; waits = refl; apart = (refl, (refl, tt)) }
+
+pub returns-in_err-named-clause-form : goal.returns-in_err-named-clause-form
+unfolding next may_end ◌⨾◌ ◌or◌ arg args brackets cx_call
+returns-in_err-named-clause-form c = λ k r.
+    let p = err_from_is_err_and c.from_residual.result c.from_residual.ensures.1 in
+    rw (p.1, p.2) (c.in_err-named.ensures.form (listing k) refl)
+
+pub returns-in_err-listed-clause-form : goal.returns-in_err-listed-clause-form
+unfolding next may_end ◌⨾◌ ◌or◌ arg args brackets cx_call
+returns-in_err-listed-clause-form c = λ k r.
+    let p = err_from_is_err_and c.from_residual-in_err-listed.result c.from_residual-in_err-listed.ensures.1 in
+    rw (p.1, p.2) (stopped_along _ _ _ (c.in_ok-named.ensures.form (listing k) refl) (c.in_err-listed.ensures.form (closing k) (closes k)))
+
+pub returns-in_err-end-clause-form : goal.returns-in_err-end-clause-form
+unfolding next may_end ◌⨾◌ ◌or◌ arg args brackets cx_call
+returns-in_err-end-clause-form c = λ k r.
+    let p = err_from_is_err_and c.from_residual-in_err-end.result c.from_residual-in_err-end.ensures.1 in
+    rw (p.1, p.2) (stopped_along _ _ _ (c.in_ok-named.ensures.form (listing k) refl ∙ c.in_ok-listed.ensures.form (closing k) (closes k)) (c.in_err-end.ensures.form k r))
+
+pub returns-clause-form : goal.returns-clause-form
+unfolding next may_end ◌⨾◌ ◌or◌ arg args brackets cx_call
+returns-clause-form c = λ k r. c.in_ok-named.ensures.form (listing k) refl ∙ c.in_ok-listed.ensures.form (closing k) (closes k) ∙ c.in_ok-end.ensures.form k r
+
+pub returns-clause-spelled : goal.returns-clause-spelled
+returns-clause-spelled c =
+    let found = c.args.found.now in
+    (spells_more (fixed Cx ∷ []) ((args_text c.in_ok-listed.listed) ++ (fixed Semicolon ∷ [])) found c.args.at c.in_ok-named.named c.in_ok-end.end c.in_ok-named.ensures.spelled (spells_more (args_text c.in_ok-listed.listed) (fixed Semicolon ∷ []) found c.in_ok-named.named c.in_ok-listed.closed c.in_ok-end.end c.in_ok-listed.ensures.spelled c.in_ok-end.ensures.spelled))

@@ -1,5 +1,0 @@
-use Rattle.qasm_parse.proofs.OneTree.{one_tree}
-use Rattle.qasm_parse.proofs.laws.law_one_tree.Goals as goal
-
-pub returns : goal.returns
-returns c = one_tree

@@ -1,7 +1,0 @@
-use Rattle.qasm_parse.specs.Forms.{◌⨾◌}
-use Rattle.qasm_parse.specs.Grammar.{register}
-use Rattle.qasm_parse.proofs.productions.register.Goals as goal
-
-pub returns-clause-form : goal.returns-clause-form
-unfolding register ◌⨾◌
-returns-clause-form c = λ k r. c.expect.ensures.form k r
