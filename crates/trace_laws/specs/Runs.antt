@@ -24,16 +24,16 @@ abbrev pub axis_now : Trace → Step → Signed
 axis_now t s = carry t.turns s.axis
 
 -- the raw outcome
-abbrev pub raw_outcome : Act → Bool
-raw_outcome (rotate raw x) = raw
-raw_outcome (measure raw bit) = raw
-raw_outcome (settle first size value) = false
+abbrev pub raw_of : Act → Bool
+raw_of (rotate raw x) = raw
+raw_of (measure raw bit) = raw
+raw_of (settle first size value) = false
 
 -- a bit after a product, which may have been carried out
 abbrev pub bit_behind : Option Step → Option Signed → ℕ → Bool → Bool
 bit_behind None a b before = before
 bit_behind (Some s) None b before = before
-bit_behind (Some s) (Some a) b before = if writes s.act b then effective a (raw_outcome s.act) else before
+bit_behind (Some s) (Some a) b before = if writes s.act b then effective a (raw_of s.act) else before
 
 -- the effective outcome of the greatest product below p that writes the bit and was carried out, and 0 where there is none
 abbrev pub bit_below : List Step → List (ℕ × Signed) → ℕ → ℕ → Bool
