@@ -7,3 +7,5 @@ pub mod Slots
 pub mod Listed
 pub mod Filled
 pub mod Reading
+pub mod Existing
+pub mod Laws

@@ -27,19 +27,19 @@ slot_at_first kind.Rotation = None
 slot_at_first (kind.Measure bit) = None
 slot_at_first (kind.Settle first size value) = Some given.Settled
 
--- what stands at a product of this kind behind these lines
+-- what stands at a product of this kind after these lines
 abbrev pub IsSlot : List Line → ℕ → Kind → Option Given → Type 0
 IsSlot ls p k None = (IsOutcomeOf k given.Settled → ⊥) × (HasLine ls p → ⊥)
 IsSlot ls p k (Some g) = IsOutcomeOf k g × ((g ≡ given.Settled) ⊎ Contains ls (outcome p g))
 
--- the draft is the one behind these lines
+-- the draft is the one after these lines
 pub record Holds (kinds : List Kind) (ls : List Line) (d : Draft) : Type 0 where
   pub sized : length d.table.items ≡ length kinds
   pub slots : (p : ℕ) (k : Kind) (o : Option Given) → slice_get kinds p ≡ Some k → slice_get d.table.items p ≡ Some o → IsSlot ls p k o
   pub fails : d.fails.items ≡ fails_of ls
   pub listed : (f run : ℕ) → contains (λ x y. ordering_then (nat_cmp x.0 y.0) (nat_cmp x.1 y.1)) d.listed (f, run) ≡ is_listed d.fails.items f run
 
--- the draft has taken a line of this text, behind these lines
+-- the draft has taken a line of this text, after these lines
 abbrev pub Takes : Asked → List Line → List ℕ → Draft → Type 0
 Takes a ls text d =
     (IsSkipped text × Holds a.kinds ls d)
@@ -49,7 +49,7 @@ Takes a ls text d =
 abbrev pub IsFirstEmpty : List (Option Given) → OutcomeFault → Type 0
 IsFirstEmpty slots f = (n : ℕ) × (f ≡ fault.Missing n) × (slice_get slots n ≡ Some None) × ((p : ℕ) → p < n → slice_get slots p ≢ Some None)
 
--- the texts keep every rule, and the draft is the one behind them
+-- the texts keep every rule, and the draft is the one after them
 pub record IsBodyOf (a : Asked) (texts : List (List ℕ)) (d : Draft) : Type 0 where
   pub ls : List Line
   pub read : AreRead texts ls

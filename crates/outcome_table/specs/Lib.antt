@@ -1,3 +1,4 @@
 pub mod Drafts
 pub mod OutcomeText
+pub mod Laws
 pub mod Rows

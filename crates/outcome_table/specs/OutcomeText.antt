@@ -62,7 +62,7 @@ IsFor a p g = (k : Kind) × (slice_get a.kinds p ≡ Some k) × IsOutcomeOf k g
 abbrev pub HasLine : List Line → ℕ → Type 0
 HasLine ls p = (g : Given) × Contains ls (outcome p g)
 
--- behind these lines a line keeps every rule
+-- after these lines a line keeps every rule
 abbrev pub Kept : Asked → List Line → Line → Type 0
 Kept a before (outcome p g) = IsFor a p g × (HasLine before p → ⊥)
 Kept a before (failing f) = Contains a.factories f.factory × (Contains before (failing f) → ⊥) × (length (fails_of before) < 4096)
@@ -71,7 +71,7 @@ abbrev pub AllKept : Asked → List Line → List Line → Type 0
 AllKept a before [] = Unit {0}
 AllKept a before (line ∷ ls) = Kept a before line × AllKept a (before ++ line ∷ []) ls
 
--- the first rule that line number n breaks behind these lines
+-- the first rule that line number n breaks after these lines
 abbrev pub Breaks : Asked → List Line → ℕ → Line → OutcomeFault → Type 0
 Breaks a before n (outcome p g) f =
     ((f ≡ fault.Number n) × (length a.kinds ≤ p))
@@ -82,7 +82,7 @@ Breaks a before n (failing x) f =
     ⊎ ((f ≡ fault.Repeated n) × Contains a.factories x.factory × Contains before (failing x))
     ⊎ ((f ≡ fault.TooManyFails) × Contains a.factories x.factory × (Contains before (failing x) → ⊥) × (4096 ≤ length (fails_of before)))
 
--- the text of line number n is refused behind these lines: it has no form, or breaks a rule
+-- the text of line number n is refused after these lines: it has no form, or breaks a rule
 abbrev pub BreaksText : Asked → List Line → ℕ → List ℕ → OutcomeFault → Type 0
 BreaksText a before n text f =
     ((f ≡ fault.Form n) × (IsSkipped text → ⊥) × ((line : Line) → Spells text line → ⊥))
@@ -98,7 +98,7 @@ IsShort text = length text ≤ 4194304
 abbrev pub IsHeaded : List ℕ → List (List ℕ) → Type 0
 IsHeaded text texts = lines text ≡ codes "outcomes 1" ∷ texts
 
--- each line behind the first keeps every rule
+-- each line after the first keeps every rule
 pub record IsRead (a : Asked) (text : List ℕ) (ls : List Line) : Type 0 where
   pub texts : List (List ℕ)
   pub headed : IsHeaded text texts

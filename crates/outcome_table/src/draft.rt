@@ -53,7 +53,8 @@ impl Draft {
         ensures kept { OnOk result ((ls : List Line_of) → Holds kinds.now ls self.old
             → Takes (record { kinds = kinds.now; factories = factories.now }) ls text.now self.new) }
         ensures broken { IfErr result (λ f. (ls : List Line_of) → Holds kinds.now ls self.old
-            → (f ≡ fault.Memory) ⊎ BreaksText (record { kinds = kinds.now; factories = factories.now }) ls number text.now f) }
+            → (f ≡ fault.Memory) ⊎ BreaksText
+            (record { kinds = kinds.now; factories = factories.now }) ls number text.now f) }
     {
         if is_skipped(text) {
             return Ok(());
@@ -77,11 +78,14 @@ impl Draft {
     ) -> Result<(), OutcomeFault>
         requires sized { length self.old.table.items ≡ length kinds.now }
         requires unsettled { given ≢ given_of.Settled }
-        ensures kept { OnOk result ((factories : List ℕ) (ls : List Line_of) → Holds kinds.now ls self.old
+        ensures kept { OnOk result ((factories : List ℕ) (ls : List Line_of)
+            → Holds kinds.now ls self.old
             → Kept (record { kinds = kinds.now; factories = factories }) ls (outcome product given)
             × Holds kinds.now (ls ++ outcome product given ∷ []) self.new) }
-        ensures broken { IfErr result (λ f. (factories : List ℕ) (ls : List Line_of) → Holds kinds.now ls self.old
-            → Breaks (record { kinds = kinds.now; factories = factories }) ls number (outcome product given) f) }
+        ensures broken { IfErr result (λ f. (factories : List ℕ) (ls : List Line_of)
+            → Holds kinds.now ls self.old
+            → Breaks (record { kinds = kinds.now; factories = factories }) ls number
+            (outcome product given) f) }
     {
         let place = product as usize;
         if place >= kinds.len() {
@@ -99,11 +103,14 @@ impl Draft {
 
     // Takes a failing run from the line of this number.
     fn put_fail(&mut self, factories: &[u32], number: u32, fail: Fail) -> Result<(), OutcomeFault>
-        ensures kept { OnOk result ((kinds : List Kind_of) (ls : List Line_of) → Holds kinds ls self.old
+        ensures kept { OnOk result ((kinds : List Kind_of) (ls : List Line_of)
+            → Holds kinds ls self.old
             → Kept (record { kinds = kinds; factories = factories.now }) ls (failing fail)
             × Holds kinds (ls ++ failing fail ∷ []) self.new) }
-        ensures broken { IfErr result (λ f. (kinds : List Kind_of) (ls : List Line_of) → Holds kinds ls self.old
-            → (f ≡ fault.Memory) ⊎ Breaks (record { kinds = kinds; factories = factories.now }) ls number (failing fail) f) }
+        ensures broken { IfErr result (λ f. (kinds : List Kind_of) (ls : List Line_of)
+            → Holds kinds ls self.old
+            → (f ≡ fault.Memory) ⊎ Breaks
+            (record { kinds = kinds; factories = factories.now }) ls number (failing fail) f) }
     {
         if !factories.contains(&fail.factory) {
             return Err(OutcomeFault::Factory { line: number });

@@ -31,8 +31,8 @@ pub enum OutcomeFault {
     /// The least product without a line, of those that aren't settled.
     #[error("product {number} has no line")]
     Missing { number: u32 },
-    /// Want of memory.
-    #[error("want of memory")]
+    /// Out of memory.
+    #[error("out of memory")]
     Memory,
 }
 

@@ -3,17 +3,22 @@
 
 mod draft;
 mod fault;
-mod laws;
+mod law;
 mod line;
-mod lists;
 mod read;
-#[cfg(test)]
-mod tests;
 
 pub use fault::OutcomeFault;
-pub use laws::{law_one_fault, law_one_table, law_table_or_fault};
-pub use lists::{FailList, GivenList};
+pub use law::{law_answer, law_one_fault, law_one_table, law_table_or_fault};
+use magic_pool::Fail;
+use patch_base::Listed;
 pub use read::read_outcomes;
+use source_model::Given;
+
+/// The outcomes by product.
+pub type GivenList = Listed<Given>;
+
+/// Failing runs.
+pub type FailList = Listed<Fail>;
 
 /// What an outcome text stands for.
 #[derive(Drop)]

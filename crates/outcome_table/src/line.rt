@@ -34,7 +34,7 @@ pub(crate) fn line_of(text: &[u8]) -> Option<Line>
     }
 }
 
-// The words behind an `r`.
+// The words after an `r`.
 fn read_rotation(words: &mut Words) -> Option<Line>
     ensures some { IfSome result (λ line. SpellsWords (codes "r" ∷ words.old) (said line)) }
     ensures none { IfNone result ((line : Line_of) → SpellsWords (codes "r" ∷ words.old) line → ⊥) }
@@ -49,7 +49,7 @@ fn read_rotation(words: &mut Words) -> Option<Line>
     })
 }
 
-// The words behind an `m`.
+// The words after an `m`.
 fn read_measurement(words: &mut Words) -> Option<Line>
     ensures some { IfSome result (λ line. SpellsWords (codes "m" ∷ words.old) (said line)) }
     ensures none { IfNone result ((line : Line_of) → SpellsWords (codes "m" ∷ words.old) line → ⊥) }
@@ -63,7 +63,7 @@ fn read_measurement(words: &mut Words) -> Option<Line>
     })
 }
 
-// The words behind an `f`.
+// The words after an `f`.
 fn read_failing(words: &mut Words) -> Option<Line>
     ensures some { IfSome result (λ line. SpellsWords (codes "f" ∷ words.old) (said line)) }
     ensures none { IfNone result ((line : Line_of) → SpellsWords (codes "f" ∷ words.old) line → ⊥) }
@@ -77,7 +77,8 @@ fn read_failing(words: &mut Words) -> Option<Line>
 // Takes a word off that is a decimal.
 fn next_number(words: &mut Words) -> Option<u32>
     ensures some { IfSome result (λ n. (n < 2 ^ 32) × (words.old ≡ decimal_text n ∷ words.new)) }
-    ensures none { IfNone result ((n : ℕ) (rest : List (List ℕ)) → n < 2 ^ 32 → words.old ≢ decimal_text n ∷ rest) }
+    ensures none { IfNone result ((n : ℕ) (rest : List (List ℕ)) → n < 2 ^ 32
+        → words.old ≢ decimal_text n ∷ rest) }
 {
     decimal(words.next_word()?)
 }

@@ -27,7 +27,7 @@ const BYTES: usize = TEXT_BYTES as usize;
 /// # Errors
 ///
 /// The first line that breaks a rule gives the fault, with the first rule that it breaks. Where no
-/// line does, `Missing` names the least product without a line. `Memory` where memory is wanting,
+/// line does, `Missing` names the least product without a line. `Memory` where memory runs out,
 /// which is also answered for 2^32 products or more, whose numbers no line can have.
 pub fn read_outcomes(
     alloc: Global,
@@ -35,11 +35,15 @@ pub fn read_outcomes(
     kinds: &[Kind],
     factories: &[u32],
 ) -> Result<Outcomes, OutcomeFault>
-    ensures accepted { IfOk result (λ o. StandsFor (record { kinds = kinds.now; factories = factories.now }) text.now o.given o.fails) }
-    ensures exact { (given : List Given_of) (fails : List Fail_of) → StandsFor (record { kinds = kinds.now; factories = factories.now }) text.now given fails
+    ensures accepted { IfOk result (λ o.
+        StandsFor (record { kinds = kinds.now; factories = factories.now }) text.now o.given o.fails) }
+    ensures exact { (given : List Given_of) (fails : List Fail_of)
+        → StandsFor (record { kinds = kinds.now; factories = factories.now }) text.now given fails
         → MatchResult result (λ o. (o.given ≡ given) × (o.fails ≡ fails)) (λ f. f ≡ fault.Memory) }
-    ensures refused { IfErr result (λ f. (f ≡ fault.Memory) ⊎ Refuses (record { kinds = kinds.now; factories = factories.now }) text.now f) }
-    ensures faults { (f : OutcomeFault_of) → Refuses (record { kinds = kinds.now; factories = factories.now }) text.now f
+    ensures refused { IfErr result (λ f. (f ≡ fault.Memory)
+        ⊎ Refuses (record { kinds = kinds.now; factories = factories.now }) text.now f) }
+    ensures faults { (f : OutcomeFault_of)
+        → Refuses (record { kinds = kinds.now; factories = factories.now }) text.now f
         → MatchResult result (λ o. ⊥) (λ e. (e ≡ fault.Memory) ⊎ (e ≡ f)) }
 {
     read(alloc, text, kinds, factories)
@@ -52,8 +56,10 @@ fn read(
     kinds: &[Kind],
     factories: &[u32],
 ) -> Result<Outcomes, OutcomeFault>
-    ensures accepted { IfOk result (λ o. StandsFor (record { kinds = kinds.now; factories = factories.now }) text.now o.given o.fails) }
-    ensures refused { IfErr result (λ f. (f ≡ fault.Memory) ⊎ Refuses (record { kinds = kinds.now; factories = factories.now }) text.now f) }
+    ensures accepted { IfOk result (λ o.
+        StandsFor (record { kinds = kinds.now; factories = factories.now }) text.now o.given o.fails) }
+    ensures refused { IfErr result (λ f. (f ≡ fault.Memory)
+        ⊎ Refuses (record { kinds = kinds.now; factories = factories.now }) text.now f) }
 {
     if text.len() > BYTES {
         return Err(OutcomeFault::TooLong);
@@ -61,7 +67,7 @@ fn read(
     if kinds.len() > u32::MAX as usize {
         return Err(OutcomeFault::Memory);
     }
-    let Some(start) = behind_header(text) else {
+    let Some(start) = after_header(text) else {
         return Err(OutcomeFault::Form { line: 1 });
     };
     let draft = read_lines(alloc, text, start, kinds, factories)?;
@@ -71,10 +77,12 @@ fn read(
     })
 }
 
-// Where the line behind the first line begins. None where the first line isn't `outcomes 1`.
-fn behind_header(text: &[u8]) -> Option<usize>
-    ensures some { IfSome result (λ at. (0 < at) × (lines text.now ≡ codes "outcomes 1" ∷ lines (drop at text.now))) }
-    ensures none { IfNone result ((texts : List (List ℕ)) → lines text.now ≢ codes "outcomes 1" ∷ texts) }
+// Where the line after the first line begins. None where the first line isn't `outcomes 1`.
+fn after_header(text: &[u8]) -> Option<usize>
+    ensures some { IfSome result (λ at. (0 < at)
+        × (lines text.now ≡ codes "outcomes 1" ∷ lines (drop at text.now))) }
+    ensures none { IfNone result ((texts : List (List ℕ))
+        → lines text.now ≢ codes "outcomes 1" ∷ texts) }
 {
     let line = next_line(text, 0)?;
     if &text[line.start..line.end] == b"outcomes 1".as_slice() {
@@ -94,8 +102,12 @@ fn read_lines(
 ) -> Result<Draft, OutcomeFault>
     requires few { length text.now ≤ 4194304 }
     requires some { 0 < start }
-    ensures read { IfOk result (λ draft. IsBodyOf (record { kinds = kinds.now; factories = factories.now }) (lines (drop start text.now)) draft) }
-    ensures broken { IfErr result (λ f. (f ≡ fault.Memory) ⊎ BreaksBody (record { kinds = kinds.now; factories = factories.now }) (lines (drop start text.now)) f) }
+    ensures read { IfOk result (λ draft.
+        IsBodyOf (record { kinds = kinds.now; factories = factories.now })
+        (lines (drop start text.now)) draft) }
+    ensures broken { IfErr result (λ f. (f ≡ fault.Memory)
+        ⊎ BreaksBody (record { kinds = kinds.now; factories = factories.now })
+        (lines (drop start text.now)) f) }
 {
     let mut draft = Draft::new(alloc, kinds)?;
     let mut at = start;

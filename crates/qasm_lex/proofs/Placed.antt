@@ -45,7 +45,7 @@ number_within bs some e =
     (λ _. pick (is_whole (take front bs)) (heads.Token kinds.Whole front) heads.Bad (length bs) (λ _. (begins, f)) (λ _. tt))
     (λ _. (omega arith, omega arith))
 
-past_end : (xs : List ℕ) (i : ℕ) (b : ℕ) → (get_or xs i 0 == suc b) ≡ true → i < length xs
+pub past_end : (xs : List ℕ) (i : ℕ) (b : ℕ) → (get_or xs i 0 == suc b) ≡ true → i < length xs
 past_end [] i b e = grind (arith, nat_tests)
 past_end (x ∷ xs) zero b e = omega arith
 past_end (x ∷ xs) (suc i) b e = omega (arith, past_end xs i b e)
@@ -106,7 +106,7 @@ push_placed : (total : ℕ) (u : Token) (us : List Token) → Placed total u →
 push_placed total u us p ps zero t e = let same : u ≡ t = cc in subst (Placed total) same p
 push_placed total u us p ps (suc k) t e = ps k t e
 
-abbrev nothing : Result (List Token) CircuitFault
+abbrev pub nothing : Result (List Token) CircuitFault
 nothing = Ok []
 
 no_tokens : (total : ℕ) (ts : List Token) → nothing ≡ Ok ts → AllPlaced total ts
@@ -117,7 +117,7 @@ with_placed : (total : ℕ) (u : Token) (r : Result (List Token) CircuitFault) (
 with_placed total u (Ok us) ts p on e = let same : u ∷ us ≡ ts = cc in subst (AllPlaced total) same (push_placed total u us p (on us refl))
 with_placed total u (Err f) ts p on e = cc
 
-after : ℕ → ℕ → ℕ → List ℕ → Head → Result (List Token) CircuitFault
+unfoldable pub after : ℕ → ℕ → ℕ → List ℕ → Head → Result (List Token) CircuitFault
 after turns at line bs heads.Feed = tokens_from turns (at + 1) (line + 1) (drop 1 bs)
 after turns at line bs (heads.Blank n) = tokens_from turns (at + n) line (drop n bs)
 after turns at line bs (heads.Token kind n) = with_front (record { kind = kind; start = at; end = at + n; line = line } ∷ []) (tokens_from turns (at + n) line (drop n bs))
@@ -133,7 +133,7 @@ after_placed total turns at line bs (heads.Token kind n) ts l w on e =
     with_placed total (record { kind = kind; start = at; end = at + n; line = line }) (tokens_from turns (at + n) line (drop n bs)) ts (omega arith, omega arith) (λ us f. on (at + n) line (drop n bs) us (omega (arith, length-drop n bs)) f) e
 after_placed total turns at line bs heads.Bad ts l w on e = cc
 
-turn_is : (turns at line : ℕ) (b : ℕ) (bs : List ℕ) → tokens_from (suc turns) at line (b ∷ bs) ≡ after turns at line (b ∷ bs) (head_of (b ∷ bs))
+pub turn_is : (turns at line : ℕ) (b : ℕ) (bs : List ℕ) → tokens_from (suc turns) at line (b ∷ bs) ≡ after turns at line (b ∷ bs) (head_of (b ∷ bs))
 unfolding tokens_from after
 turn_is turns at line b bs = by_head (head_of (b ∷ bs)) refl
   where
@@ -143,11 +143,11 @@ turn_is turns at line b bs = by_head (head_of (b ∷ bs)) refl
     by_head (heads.Token kind n) e = rw (e, tokens_from) refl
     by_head heads.Bad e = rw (e, tokens_from) refl
 
-none_at_zero : (at line : ℕ) (bs : List ℕ) → tokens_from zero at line bs ≡ Ok []
+pub none_at_zero : (at line : ℕ) (bs : List ℕ) → tokens_from zero at line bs ≡ Ok []
 unfolding tokens_from
 none_at_zero at line bs = refl
 
-none_at_end : (turns at line : ℕ) → tokens_from (suc turns) at line [] ≡ Ok []
+pub none_at_end : (turns at line : ℕ) → tokens_from (suc turns) at line [] ≡ Ok []
 unfolding tokens_from
 none_at_end turns at line = refl
 

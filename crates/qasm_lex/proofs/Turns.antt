@@ -11,7 +11,7 @@ use Rattle.qasm_lex.specs.declared.fault.CircuitFault.{CircuitFault}
 use Rattle.qasm_lex.specs.declared.fault.CircuitFault.TheVariants as circuits
 use Rattle.qasm_lex.specs.Tokens.{head_of, tokens_from, tokens_of, with_front}
 
--- what is left of the text, behind the tokens so far, gives the tokens of the whole text
+-- what is left of the text, after the tokens so far, gives the tokens of the whole text
 pub record Reads (found : List Token) (turns at line : ℕ) (text : List ℕ) : Type 0 where
   pub turn : length text < at + turns
   pub given : with_front found (tokens_from turns at line (drop at text)) ≡ tokens_from (length text + 1) 0 1 text

@@ -18,7 +18,7 @@ some_decides : (run : List ℕ) (r : Option ℕ) → IfSome r (λ v. (v < 2 ^ 32
 some_decides run (Some v) value other = (λ _. (v, value.0, value.1), λ _. refl)
 some_decides run None value other = (λ e. cc, λ p. absurd (other p.0 p.1 p.2))
 
-whole_decides : (run : List ℕ) → Decides (is_whole run) (IsDecimal run)
+pub whole_decides : (run : List ℕ) → Decides (is_whole run) (IsDecimal run)
 unfolding is_whole
 whole_decides run = Decides-like (is_whole run) forth back (Decides-and _ _ (Decides-ltb (digits_value 10 run) (2 ^ 32)) (bytes_eq-Decides run (decimal (digits_value 10 run))))
   where

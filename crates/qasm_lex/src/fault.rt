@@ -43,8 +43,8 @@ pub enum CircuitFault {
     /// The line, counted from 1, at which the text is refused; 0 for a text past 4 MiB.
     #[error("line {line} of the circuit: {kind:?}")]
     At { line: u32, kind: FaultKind },
-    /// Want of memory.
-    #[error("want of memory")]
+    /// Out of memory.
+    #[error("out of memory")]
     Memory,
 }
 

@@ -1,16 +1,15 @@
 //! The tokens of a circuit text in OpenQASM 2.0, and why a circuit text is refused.
 #![tactic(auto)]
 
-ghost use Rattle.std.specs.Prelude.{◌≡◌, ◌<◌, ◌≤◌, length, take, drop, slice_index, true, not, ◌==◌, ◌||◌, ℕ, List, slice_get, Some};
+ghost use Rattle.std.specs.Prelude.{◌≡◌, ◌<◌, ◌≤◌, length, take, drop, slice_index, true, not, ◌==◌, ◌||◌};
 ghost use Rattle.std.specs.List.{prefix_len};
-ghost use Rattle.qasm_lex.specs.declared.Token.{Token};
-ghost use Rattle.qasm_lex.specs.Tokens.{Gives, tokens_of, head_of, number_head, quoted_head, symbol_head, exponent_len, fraction_len, sign_len, digits, is_whole, IsWithin, IsPlaced, is_digit, is_symbol, is_blank, starts_word, is_word_byte};
+ghost use Rattle.qasm_lex.specs.Tokens.{Gives, tokens_of, head_of, number_head, quoted_head, symbol_head, exponent_len, fraction_len, sign_len, digits, is_whole, IsWithin, is_digit, is_symbol, is_blank, starts_word, is_word_byte};
 
 mod fault;
-#[cfg(test)]
-mod tests;
+mod law;
 
 pub use fault::{CircuitFault, FaultKind};
+pub use law::{law_answer, law_placed, law_short, law_tokens};
 use patch_base::{TEXT_BYTES, decimal};
 use std::alloc::Global;
 
@@ -35,7 +34,7 @@ pub struct Token {
     pub kind: TokenKind,
     /// The place of its first byte in the text.
     pub start: u32,
-    /// The place behind its last byte.
+    /// The place after its last byte.
     pub end: u32,
     /// Its line, counted from 1.
     pub line: u32,
@@ -178,7 +177,7 @@ fn is_whole(run: &[u8]) -> bool
     decimal(run).is_some()
 }
 
-/// The head where a digit stands: a point with digits behind the run makes it a real.
+/// The head where a digit stands: a point with digits after the run makes it a real.
 #[tactic(auto, unfolding(crate::specs::Tokens::number_head))]
 fn number_head(rest: &[u8]) -> Head
     requires some { 0 < length rest.now }
@@ -321,14 +320,3 @@ pub fn tokens(alloc: Global, text: &[u8]) -> Result<Vec<Token>, CircuitFault>
     }
     Ok(found)
 }
-
-/// Each token of a text has a byte at least, and its bytes stand in the text.
-pub fn law_placed()
-    ensures { (text : List ℕ) (ts : List Token) → tokens_of text ≡ Ok ts
-        → (k : ℕ) (t : Token) → slice_get ts k ≡ Some t → IsPlaced text t }
-{}
-
-/// A text that has tokens isn't too long.
-pub fn law_short()
-    ensures { (text : List ℕ) (ts : List Token) → tokens_of text ≡ Ok ts → length text ≤ 4194304 }
-{}

@@ -8,7 +8,7 @@ use Rattle.qasm_lex.specs.Tokens.{Fails, Gives, IsPlaced, tokens_of}
 use Rattle.qasm_parse.specs.declared.tree.Tree.{Tree}
 use Rattle.qasm_parse.specs.Pass.{Parses}
 use Rattle.qasm_expand.specs.Limits.{passing, IsRefused as IsPast}
-use Rattle.rotation_list.specs.ListText.{list_circuit}
+use Rattle.product_list.specs.ListText.{list_circuit}
 use Rattle.rotation_list.specs.Items.{HasNames, IsTreeOf}
 use Rattle.rotation_list.specs.Texts.{FaultOf, IsFaulty, IsProgramOf, IsRefused, StandsFor, is_list}
 use Rattle.rotation_list.specs.Texts.IsFaulty.{untokened, untreed, unbounded}
@@ -35,7 +35,7 @@ pub past_fault : (text : List ℕ) (tree : Tree) (f : CircuitFault) → IsTreeOf
 past_fault text tree fault.Memory made h = tt
 past_fault text tree (fault.At line kind) made h = subst (IsFaulty text line) (sym h.1) (unbounded tree line made h.0)
 
--- a fault, or want of memory
+-- a fault, or out of memory
 abbrev Refusal : List ℕ → CircuitFault → Type 0
 Refusal text f = (f ≡ fault.Memory) ⊎ IsRefused text f
 

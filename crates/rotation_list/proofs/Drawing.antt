@@ -1,5 +1,7 @@
 -- Draws, and the operations and outcomes that they give.
-use Rattle.std.proofs.Common.{◌≡◌, ℕ, ◌+◌, ◌*◌, ◌≤◌, length, drop, List, [], ◌∷◌, ◌++◌, Some, None, refl, sym, ◌∙◌, ap, append_assoc, append-nil, add-one, codes, arith}
+use Rattle.std.proofs.Common.{◌≡◌, ℕ, suc, ◌+◌, ◌*◌, ◌<◌, ◌≤◌, length, drop, get_or, List, [], ◌∷◌, ◌++◌, Some, None, refl, sym, ◌∙◌, ap, append_assoc, append-nil, add-one, codes, arith}
+use Rattle.std.proofs.Math.Seq.{drop-cons}
+use Rattle.patch_base.specs.Texts.{spaced}
 use Rattle.source_model.specs.declared.Angle.TheVariants.{Eighth, Quarter, Half}
 use Rattle.source_model.specs.declared.Item.{Item}
 use Rattle.source_model.specs.declared.Item.TheVariants as item
@@ -9,8 +11,8 @@ use Rattle.source_model.specs.declared.Register.{Register}
 use Rattle.source_model.specs.declared.Kind.{Kind}
 use Rattle.source_model.specs.Circuits.{kinds}
 use Rattle.rotation_list.specs.Gates.{measured}
-use Rattle.rotation_list.specs.Pulled.{kind_of}
-use Rattle.rotation_list.specs.Printed.{line_text}
+use Rattle.static_products.specs.Pulled.{kind_of}
+use Rattle.product_list.specs.Printed.{line_text}
 use Rattle.rotation_list.specs.Generated.{next_number, draw, operation, operations, measurements, big_items, big_circuit, big_outcomes, outcome_words, outcome_lines}
 
 pub draw_first : (n : ℕ) → draw n 0 ≡ n
@@ -58,6 +60,13 @@ kinds_turn (item.Turn axis Quarter) is e = refl
 kinds_turn (item.Turn axis Half) is e = refl
 kinds_turn (item.Measure axis bit) is e = absurd (cc)
 kinds_turn (item.If axis first size value) is e = absurd (cc)
+
+pub next_item : (items : List Item) (k : ℕ) (i : Item) → k < length items → i ≡ get_or items k i → drop k items ≡ i ∷ drop (k + 1) items
+next_item items k i l e = drop-cons items k i l ∙ ap (λ x. x ∷ drop (suc k) items) (sym e) ∙ ap (λ m. i ∷ drop m items) (sym (add-one k))
+
+pub line_put : (ws : List (List ℕ)) (x0 x1 x2 : List ℕ) → x1 ≡ x0 ++ spaced ws → x2 ≡ x1 ++ 10 ∷ [] → x2 ≡ x0 ++ line_text ws
+unfolding line_text
+line_put ws x0 x1 x2 e1 e2 = rw (e2, e1) (append_assoc x0 (spaced ws) (10 ∷ []))
 
 -- the text so far, and the lines that are still to come
 pub Remains : (whole text : List ℕ) (n drawn p : ℕ) (rest : List Item) → Type 0

@@ -1,15 +1,6 @@
-pub mod Wording
-pub mod Axes
-pub mod Ruling
-pub mod Texts
-pub mod Pulling
-pub mod Printing
 pub mod Drawing
 pub mod Each
-pub mod Plain
-pub mod Declared
-pub mod Listable
-pub mod Formed
+pub mod OneLine
 pub mod Named
 pub mod Telling
 pub mod Programs
@@ -17,7 +8,6 @@ pub mod SmallValues
 pub mod Answering
 pub mod Making
 pub mod Unique
-pub mod Lettered
-pub mod LinesBack
-pub mod ReadBack
 pub mod Standing
+pub mod Existing
+pub mod Laws

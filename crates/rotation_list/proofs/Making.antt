@@ -11,7 +11,7 @@ use Rattle.source_model.specs.SourceRun.{axis_of}
 use Rattle.source_model.specs.Circuits.{BitsBelow, HiddenInOrder, IsOneLine, ReadsWhole, WellFormed}
 use Rattle.rotation_list.specs.Gates.{t_gate, s_gate, h_gate, controlled, measured}
 use Rattle.rotation_list.specs.Generated.{draw, operation, operations, measurements, big_items, big_circuit}
-use Rattle.rotation_list.proofs.Formed.{IsOneLine-bytes}
+use Rattle.rotation_list.proofs.OneLine.{IsOneLine-bytes}
 use Rattle.rotation_list.proofs.Programs.{AllFit, axes_fit, bits_fit, both_fit, controlled_fits, measured_fits, reads_fit, turn_fits}
 
 abbrev bits : List Register

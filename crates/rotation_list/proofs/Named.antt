@@ -3,6 +3,7 @@ use Rattle.std.proofs.Common.{◌≡◌, ℕ, zero, suc, ◌+◌, ◌-◌, ◌<�
 use Rattle.std.specs.List.{list_all, prefix_len}
 use Rattle.std.specs.Str.{bytes_eq}
 use Rattle.std.specs.Prelude.{codes}
+use Rattle.std.proofs.lemmas.Bool.{and_from, or_left}
 use Rattle.std.proofs.lemmas.Bool.Decides.{nat_tests}
 use Rattle.std.proofs.lemmas.Grind.{common_steps}
 use Rattle.std.proofs.lemmas.List.{length_push}
@@ -14,7 +15,9 @@ use Rattle.qasm_lex.specs.declared.fault.FaultKind.{FaultKind}
 use Rattle.qasm_lex.specs.declared.fault.FaultKind.TheVariants as faults
 use Rattle.qasm_lex.specs.declared.fault.CircuitFault.{CircuitFault}
 use Rattle.qasm_lex.specs.declared.fault.CircuitFault.TheVariants as circuits
-use Rattle.qasm_lex.specs.Tokens.{IsPlaced, with_front, tokens_from, tokens_of, head_of, number_head, quoted_head, symbol_head, exponent_len, fraction_len, is_whole, is_digit, is_blank, is_symbol, starts_word, is_word_byte}
+use Rattle.qasm_lex.specs.Forms.{IsToken}
+use Rattle.qasm_lex.specs.Tokens.{IsPlaced, tokens_of, is_digit, starts_word, is_word_byte}
+use Rattle.qasm_lex.proofs.Laws.{forms_of_kinds}
 use Rattle.qasm_parse.specs.declared.follow.Stop.{Stop}
 use Rattle.qasm_parse.specs.declared.spoken.Sentence.{Sentence}
 use Rattle.qasm_parse.specs.declared.spoken.Sentence.TheVariants as sentences
@@ -34,7 +37,7 @@ use Rattle.qasm_parse.specs.Behind.{declared_at, with_classical, behind}
 use Rattle.qasm_parse.specs.Pass.Continues.{ends, stops, breaks, goes_on}
 use Rattle.qasm_parse.specs.Pass.{Continues, Behind, terminals, unless}
 use Rattle.rotation_list.specs.Items.{HasNames, IsNamed, IsTreeOf}
-use Rattle.rotation_list.proofs.Formed.{IsOneLine-bytes}
+use Rattle.rotation_list.proofs.OneLine.{IsOneLine-bytes}
 
 -- ---- words have bytes of words alone
 
@@ -45,63 +48,17 @@ WordBytes kinds.Real bs = Unit {0}
 WordBytes kinds.Quoted bs = Unit {0}
 WordBytes kinds.Symbol bs = Unit {0}
 
-all_front : (p : ℕ → Bool) (xs : List ℕ) → list_all p (take (prefix_len p xs) xs) ≡ true
-all_front p [] = refl
-all_front p (x ∷ xs) = onward (p x) refl (all_front p xs)
-  where
-    onward : (b : Bool) → p x ≡ b → list_all p (take (prefix_len p xs) xs) ≡ true → list_all p (take (cond b (1 + prefix_len p xs) 0) (x ∷ xs)) ≡ true
-    onward true e h =
-        let more : 1 + prefix_len p xs ≡ suc (prefix_len p xs) = omega arith in
-        rw (more, e) h
-    onward false e h = refl
+begins_word : (b : ℕ) → starts_word b ≡ true → is_word_byte b ≡ true
+unfolding is_word_byte
+begins_word b h = or_left (starts_word b) (is_digit b) h
 
--- what reading goes on with behind a turn
-data Step (turns at line : ℕ) (bs : List ℕ) (r : Result (List Token) CircuitFault) : Type 0 where
-  skips : (n next : ℕ) → r ≡ tokens_from turns (at + n) next (drop n bs) → Step turns at line bs r
-  finds : (kind : TokenKind) (n : ℕ) → WordBytes kind (take n bs) → r ≡ with_front (record { kind = kind; start = at; end = at + n; line = line } ∷ []) (tokens_from turns (at + n) line (drop n bs)) → Step turns at line bs r
-  fails : (f : CircuitFault) → r ≡ Err f → Step turns at line bs r
-
-step : (turns at line b : ℕ) (bs : List ℕ) → Step turns at line (b ∷ bs) (tokens_from (suc turns) at line (b ∷ bs))
-unfolding tokens_from head_of number_head quoted_head symbol_head
-step turns at line b bs = by_feed (b == 10) refl
-  where
-    by_symbol : (b == 10) ≡ false → is_blank b ≡ false → (b == 47 && get_or (b ∷ bs) 1 0 == 47) ≡ false → starts_word b ≡ false → is_digit b ≡ false → (b == 34) ≡ false → (two : Bool) → ((b == 45 && get_or (b ∷ bs) 1 0 == 62) || (b == 61 && get_or (b ∷ bs) 1 0 == 61)) ≡ two → (one : Bool) → is_symbol b ≡ one → Step turns at line (b ∷ bs) (tokens_from (suc turns) at line (b ∷ bs))
-    by_symbol feed blank comment word digit quote true e one f = finds kinds.Symbol 2 tt (rw (feed, blank, comment, word, digit, quote, e, tokens_from, head_of) refl)
-    by_symbol feed blank comment word digit quote false e true f = finds kinds.Symbol 1 tt (rw (feed, blank, comment, word, digit, quote, e, f, tokens_from, head_of) refl)
-    by_symbol feed blank comment word digit quote false e false f = fails (circuits.At line faults.Token) (rw (feed, blank, comment, word, digit, quote, e, f, tokens_from, head_of) refl)
-
-    by_quoted : (b == 10) ≡ false → is_blank b ≡ false → (b == 47 && get_or (b ∷ bs) 1 0 == 47) ≡ false → starts_word b ≡ false → is_digit b ≡ false → (b == 34) ≡ true → (closed : Bool) → (get_or bs (prefix_len (λ c. not (c == 34 || c == 10)) bs) 0 == 34) ≡ closed → Step turns at line (b ∷ bs) (tokens_from (suc turns) at line (b ∷ bs))
-    by_quoted feed blank comment word digit quote true e = finds kinds.Quoted (prefix_len (λ c. not (c == 34 || c == 10)) bs + 2) tt (rw (feed, blank, comment, word, digit, quote, e, tokens_from, head_of) refl)
-    by_quoted feed blank comment word digit quote false e = fails (circuits.At line faults.Token) (rw (feed, blank, comment, word, digit, quote, e, tokens_from, head_of) refl)
-
-    by_number : (b == 10) ≡ false → is_blank b ≡ false → (b == 47 && get_or (b ∷ bs) 1 0 == 47) ≡ false → starts_word b ≡ false → is_digit b ≡ true → (none : Bool) → (fraction_len (drop (1 + prefix_len is_digit bs) (b ∷ bs)) == 0) ≡ none → (whole : Bool) → is_whole (take (1 + prefix_len is_digit bs) (b ∷ bs)) ≡ whole → Step turns at line (b ∷ bs) (tokens_from (suc turns) at line (b ∷ bs))
-    by_number feed blank comment word digit true e true f = finds kinds.Whole (1 + prefix_len is_digit bs) tt (rw (feed, blank, comment, word, digit, e, f, tokens_from, head_of) refl)
-    by_number feed blank comment word digit true e false f = fails (circuits.At line faults.Token) (rw (feed, blank, comment, word, digit, e, f, tokens_from, head_of) refl)
-    by_number feed blank comment word digit false e whole f = finds kinds.Real ((1 + prefix_len is_digit bs) + fraction_len (drop (1 + prefix_len is_digit bs) (b ∷ bs)) + exponent_len (drop ((1 + prefix_len is_digit bs) + fraction_len (drop (1 + prefix_len is_digit bs) (b ∷ bs))) (b ∷ bs))) tt (rw (feed, blank, comment, word, digit, e, tokens_from, head_of) refl)
-
-    by_quote : (b == 10) ≡ false → is_blank b ≡ false → (b == 47 && get_or (b ∷ bs) 1 0 == 47) ≡ false → starts_word b ≡ false → is_digit b ≡ false → (quote : Bool) → (b == 34) ≡ quote → Step turns at line (b ∷ bs) (tokens_from (suc turns) at line (b ∷ bs))
-    by_quote feed blank comment word digit true e = by_quoted feed blank comment word digit e (get_or bs (prefix_len (λ c. not (c == 34 || c == 10)) bs) 0 == 34) refl
-    by_quote feed blank comment word digit false e = by_symbol feed blank comment word digit e ((b == 45 && get_or (b ∷ bs) 1 0 == 62) || (b == 61 && get_or (b ∷ bs) 1 0 == 61)) refl (is_symbol b) refl
-
-    by_digit : (b == 10) ≡ false → is_blank b ≡ false → (b == 47 && get_or (b ∷ bs) 1 0 == 47) ≡ false → starts_word b ≡ false → (digit : Bool) → is_digit b ≡ digit → Step turns at line (b ∷ bs) (tokens_from (suc turns) at line (b ∷ bs))
-    by_digit feed blank comment word true e = by_number feed blank comment word e (fraction_len (drop (1 + prefix_len is_digit bs) (b ∷ bs)) == 0) refl (is_whole (take (1 + prefix_len is_digit bs) (b ∷ bs))) refl
-    by_digit feed blank comment word false e = by_quote feed blank comment word e (b == 34) refl
-
-    by_word : (b == 10) ≡ false → is_blank b ≡ false → (b == 47 && get_or (b ∷ bs) 1 0 == 47) ≡ false → (word : Bool) → starts_word b ≡ word → Step turns at line (b ∷ bs) (tokens_from (suc turns) at line (b ∷ bs))
-    by_word feed blank comment true e = finds kinds.Word (prefix_len is_word_byte (b ∷ bs)) (all_front is_word_byte (b ∷ bs)) (rw (feed, blank, comment, e, tokens_from, head_of) refl)
-    by_word feed blank comment false e = by_digit feed blank comment e (is_digit b) refl
-
-    by_comment : (b == 10) ≡ false → is_blank b ≡ false → (comment : Bool) → (b == 47 && get_or (b ∷ bs) 1 0 == 47) ≡ comment → Step turns at line (b ∷ bs) (tokens_from (suc turns) at line (b ∷ bs))
-    by_comment feed blank true e = skips (prefix_len (λ c. not (c == 10)) (b ∷ bs)) line (rw (feed, blank, e, tokens_from, head_of) refl)
-    by_comment feed blank false e = by_word feed blank e (starts_word b) refl
-
-    by_blank : (b == 10) ≡ false → (blank : Bool) → is_blank b ≡ blank → Step turns at line (b ∷ bs) (tokens_from (suc turns) at line (b ∷ bs))
-    by_blank feed true e = skips 1 line (rw (feed, e, tokens_from, head_of) refl)
-    by_blank feed false e = by_comment feed e (b == 47 && get_or (b ∷ bs) 1 0 == 47) refl
-
-    by_feed : (feed : Bool) → (b == 10) ≡ feed → Step turns at line (b ∷ bs) (tokens_from (suc turns) at line (b ∷ bs))
-    by_feed true e = skips 1 (line + 1) (rw (e, tokens_from, head_of) refl)
-    by_feed false e = by_blank e (is_blank b) refl
+word_bytes : (kind : TokenKind) (bs : List ℕ) → IsToken kind bs → WordBytes kind bs
+word_bytes kinds.Word [] h = absurd h
+word_bytes kinds.Word (b ∷ bs) h = and_from (is_word_byte b) (list_all is_word_byte bs) (begins_word b h.0) h.1
+word_bytes kinds.Whole bs h = tt
+word_bytes kinds.Real bs h = tt
+word_bytes kinds.Quoted bs h = tt
+word_bytes kinds.Symbol bs h = tt
 
 abbrev pub IsWordy : List ℕ → Token → Type 0
 IsWordy text t = WordBytes t.kind (slice_range text t.start t.end)
@@ -109,49 +66,8 @@ IsWordy text t = WordBytes t.kind (slice_range text t.start t.end)
 abbrev pub AreWordy : List ℕ → List Token → Type 0
 AreWordy text ts = (k : ℕ) (t : Token) → slice_get ts k ≡ Some t → IsWordy text t
 
-push_wordy : (text : List ℕ) (u : Token) (us : List Token) → IsWordy text u → AreWordy text us → AreWordy text (u ∷ us)
-push_wordy text u us p ps zero t e = let same : u ≡ t = cc in subst (IsWordy text) same p
-push_wordy text u us p ps (suc k) t e = ps k t e
-
-abbrev nothing : Result (List Token) CircuitFault
-nothing = Ok []
-
-no_tokens : (text : List ℕ) (ts : List Token) → nothing ≡ Ok ts → AreWordy text ts
-no_tokens text [] e k t h = absurd (cc)
-no_tokens text (u ∷ us) e k t h = absurd (cc)
-
-with_wordy : (text : List ℕ) (u : Token) (r : Result (List Token) CircuitFault) (ts : List Token) → IsWordy text u → ((us : List Token) → r ≡ Ok us → AreWordy text us) → with_front (u ∷ []) r ≡ Ok ts → AreWordy text ts
-with_wordy text u (Ok us) ts p on e = let same : u ∷ us ≡ ts = cc in subst (AreWordy text) same (push_wordy text u us p (on us refl))
-with_wordy text u (Err f) ts p on e = absurd (cc)
-
--- what is read from a place on
-abbrev ReadFrom : List ℕ → ℕ → Type 0
-ReadFrom text turns = (at line : ℕ) (bs : List ℕ) (ts : List Token) → bs ≡ drop at text → tokens_from turns at line bs ≡ Ok ts → AreWordy text ts
-
-further : (text : List ℕ) (at n : ℕ) (bs : List ℕ) → bs ≡ drop at text → drop n bs ≡ drop (at + n) text
-further text at n bs e = rw e (grind (arith, common_steps))
-
-after_step : (text : List ℕ) (turns at line : ℕ) (bs : List ℕ) (r : Result (List Token) CircuitFault) (ts : List Token) → bs ≡ drop at text → ReadFrom text turns → Step turns at line bs r → r ≡ Ok ts → AreWordy text ts
-after_step text turns at line bs r ts d on (skips n next e) f = on (at + n) next (drop n bs) ts (further text at n bs d) (sym e ∙ f)
-after_step text turns at line bs r ts d on (finds kind n w e) f =
-    let long : (at + n) - at ≡ n = omega arith in
-    let own : slice_range text at (at + n) ≡ take n bs = rw (long, d) refl in
-    with_wordy text (record { kind = kind; start = at; end = at + n; line = line }) (tokens_from turns (at + n) line (drop n bs)) ts (subst (WordBytes kind) (sym own) w) (λ us g. on (at + n) line (drop n bs) us (further text at n bs d) g) (sym e ∙ f)
-after_step text turns at line bs r ts d on (fails fault e) f = absurd (cc)
-
-wordy_from : (text : List ℕ) (turns : ℕ) → ReadFrom text turns
-unfolding tokens_from
-wordy_from text zero at line bs ts d e = no_tokens text ts e
-wordy_from text (suc turns) at line [] ts d e = no_tokens text ts e
-wordy_from text (suc turns) at line (b ∷ bs) ts d e = after_step text turns at line (b ∷ bs) (tokens_from (suc turns) at line (b ∷ bs)) ts d (wordy_from text turns) (step turns at line b bs) e
-
 pub wordy : (text : List ℕ) (ts : List Token) → tokens_of text ≡ Ok ts → AreWordy text ts
-unfolding tokens_of
-wordy text ts e = by_length (nat_lt 4194304 (length text)) e
-  where
-    by_length : (b : Bool) → cond b (Err (circuits.At 0 faults.TooLong)) (tokens_from (length text + 1) 0 1 text) ≡ Ok ts → AreWordy text ts
-    by_length true f = absurd (cc)
-    by_length false f = wordy_from text (length text + 1) 0 1 text ts refl f
+wordy text ts e k t h = word_bytes t.kind (slice_range text t.start t.end) (forms_of_kinds text ts e k t h)
 
 -- ---- a name is a word
 

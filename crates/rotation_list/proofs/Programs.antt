@@ -32,10 +32,14 @@ use Rattle.qasm_expand.specs.Sound.{members, AreNumbered, IsRegister, IsSound, i
 use Rattle.qasm_expand.specs.Placed.{IsPlaced}
 use Rattle.qasm_expand.specs.Limits as limits
 use Rattle.qasm_expand.specs.Limits.{gate_products, if_products, products, product_count, is_past, line_of, passing, passing_from}
-use Rattle.rotation_list.proofs.Declared.{IsOne}
 use Rattle.rotation_list.proofs.Each.{both_parts}
 use Rattle.rotation_list.specs.Gates.{one_letter, two_letters, turn_one, controlled, conditional, measured}
-use Rattle.rotation_list.specs.Items.{HasLetter, one_gate, two_gate, conditional_gate, flat_items, hidden_in, items_from, ActsBelow, register_in, IsNamed, HasNames, circuit_of}
+use Rattle.rotation_list.specs.Items.{one_gate, two_gate, conditional_gate, flat_items, hidden_in, items_from, ActsBelow, register_in, IsNamed, HasNames, circuit_of}
+use Rattle.product_list.specs.Listable.{HasLetter}
+
+-- a register of these bits
+abbrev IsOne : ℕ → ℕ → Register → Type 0
+IsOne first size r = (r.first ≡ first) × (r.size ≡ size)
 
 -- ---- the items of flat operations, one after another
 

@@ -20,7 +20,7 @@ use Rattle.qasm_expand.specs.declared.flat.Flat.TheVariants as flats
 use Rattle.qasm_expand.specs.Flats.{Calls, all_flats, applied, body_flats, called, calls_of, conditional, definition_flats, each_from, flats_of, indices, measured, nothing, reset_at, statement_flats}
 use Rattle.rotation_list.specs.Items.{conditional_gate, flat_items, hidden_in, items_from, one_gate, two_gate}
 use Rattle.rotation_list.proofs.Each.{both_parts, each_image, each_part}
-use Rattle.rotation_list.proofs.Listable.{HasSmallValue}
+use Rattle.product_list.specs.Listable.{HasSmallValue}
 use Rattle.rotation_list.proofs.Programs.{items_end, items_next}
 use Rattle.rotation_list.proofs.Telling.{SmallStatement}
 

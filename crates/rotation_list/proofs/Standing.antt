@@ -11,14 +11,13 @@ use Rattle.source_model.specs.declared.Circuit.{Circuit}
 use Rattle.source_model.specs.Laws.{StaticsStay}
 use Rattle.source_model.specs.Statics.{statics}
 use Rattle.rotation_list.specs.Items.{IsProgram, circuit_of}
-use Rattle.rotation_list.specs.Printed.{header_text, line_text, list_text}
-use Rattle.rotation_list.specs.ReadBack.{PrintedAgain, PrintedStands, lowered, static_circuit}
+use Rattle.product_list.specs.Printed.{header_text, line_text, list_text}
+use Rattle.rotation_list.specs.Laws.{PrintedAgain, PrintedStands}
+use Rattle.product_list.specs.Listable.{IsListable, lowered, static_circuit}
+use Rattle.product_list.proofs.Laws.{printed_read, read_listable}
 use Rattle.rotation_list.specs.Texts.{StandsFor, is_list}
-use Rattle.rotation_list.proofs.Formed.{list_listable}
-use Rattle.rotation_list.proofs.Listable.{IsListable}
 use Rattle.rotation_list.proofs.Named.{tree_named}
 use Rattle.rotation_list.proofs.Programs.{program_few, program_formed, program_lettered}
-use Rattle.rotation_list.proofs.ReadBack.{listed_back}
 use Rattle.rotation_list.proofs.SmallValues.{program_small}
 use Rattle.rotation_list.proofs.Telling.{tree_tells}
 
@@ -44,7 +43,7 @@ program_listable text tree laws program =
     }
 
 listable : (text : List ℕ) (c : Circuit) → LawsBelow → StandsFor text c → IsListable c
-listable text c laws (inl (begins, h)) = list_listable text c h
+listable text c laws (inl (begins, h)) = read_listable text c h
 listable text c laws (inr (begins, h)) = subst IsListable (sym h.2) (program_listable text h.0 laws h.1)
 
 printed_is_list : (c : Circuit) → is_list (lowered c) ≡ true
@@ -52,7 +51,7 @@ unfolding list_text header_text line_text
 printed_is_list c = refl
 
 pub printed_stands : LawsBelow → PrintedStands
-printed_stands laws text c h short = inl (printed_is_list c, listed_back c (listable text c laws h) short)
+printed_stands laws text c h short = inl (printed_is_list c, printed_read c (listable text c laws h) short)
 
 pub printed_again : StaticsStay → PrintedAgain
 unfolding list_text

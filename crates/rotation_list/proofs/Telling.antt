@@ -1,11 +1,12 @@
 -- A program's classical registers are those that a product list may declare, and the values of its conditions are words of 32 bits.
-use Rattle.std.proofs.Common.{◌≡◌, ℕ, ◌+◌, ◌<◌, ◌≤◌, ◌^◌, ◌==◌, ◌&&◌, ◌||◌, nat_le, nat_lt, not, cond, Bool, true, false, IsTrue, is_some, List, [], ◌∷◌, ◌++◌, length, map, slice_get, slice_range, slice_index, codes, Option, Some, None, Result, Ok, Err, refl, sym, ◌∙◌, ap, subst, arith}
+use Rattle.std.proofs.Common.{◌≡◌, ℕ, ◌+◌, ◌<◌, ◌≤◌, ◌^◌, ◌==◌, ◌&&◌, ◌||◌, nat_le, nat_lt, not, cond, Bool, true, false, IsTrue, is_some, List, [], ◌∷◌, ◌++◌, length, map, slice_get, slice_range, slice_index, codes, decimal, Option, Some, None, Result, Ok, Err, refl, sym, ◌∙◌, ap, subst, arith}
 use Rattle.std.specs.List.{list_all, list_any, position_or_len, AllByRecursion as ByRecursion}
 use Rattle.std.specs.Str.{bytes_eq}
 use Rattle.std.specs.Str.Parse.{digits_value}
-use Rattle.std.proofs.lemmas.Bool.{and_from, and_parts, eqb-false, false≢true, lt-ltb, ltb-false, not_from_false, or_left, or_parts, or_right}
+use Rattle.std.proofs.lemmas.Bool.{and_from, and_parts, eqb-false, false≢true, lt-ltb, ltb-false, ltb-true, not_from_false, or_left, or_parts, or_right}
 use Rattle.std.proofs.lemmas.Slice.Eq.{bytes_eq-Decides}
 use Rattle.std.proofs.lemmas.List.{length-map, map-append}
+use Rattle.std.proofs.lemmas.List.Sums.{sum_by-append, sum_by-cons}
 use Rattle.std.proofs.lemmas.List.Folds.{list_any-append}
 use Rattle.patch_base.specs.Names.{begins_as_name, is_keyword, is_lower, is_name, is_word_byte}
 use Rattle.qasm_lex.specs.declared.Token.{Token}
@@ -35,11 +36,18 @@ use Rattle.qasm_parse.specs.Pass.{Behind, Continues, terminals}
 use Rattle.source_model.specs.declared.Register.{Register}
 use Rattle.source_model.specs.Circuits.{bits_in}
 use Rattle.rotation_list.specs.Items.{IsTreeOf, register_in}
-use Rattle.rotation_list.specs.ListText.{named}
-use Rattle.rotation_list.proofs.Declared.{AreDeclared, IsNext, bits_more, declared_more}
+use Rattle.product_list.specs.ListText.{named}
+use Rattle.product_list.specs.Listable.{AreDeclared, IsNext}
+use Rattle.product_list.proofs.Laws.{declared_more}
 use Rattle.rotation_list.proofs.Each.{both_parts}
-use Rattle.rotation_list.proofs.Formed.{word_small}
 use Rattle.rotation_list.proofs.Named.{AreRead, NoName, WordBytes, behind_here, behind_rest, contradicted, end_is, few_before, neither, start_is, symbol_nameless, token_of, unbroken, unless_ok, wordy}
+
+bits_more : (rs : List Register) (r : Register) → bits_in (rs ++ r ∷ []) ≡ bits_in rs + r.size
+bits_more rs r = let whole = sum_by-append (λ (x : Register). x.size) rs (r ∷ []) in let last = sum_by-cons (λ (x : Register). x.size) r [] in omega arith
+
+word_small : (v : List ℕ) → is_whole v ≡ true → digits_value 10 v < 2 ^ 32
+unfolding is_whole
+word_small v h = let p = and_parts (nat_lt (digits_value 10 v) 4294967296) (bytes_eq v (decimal (digits_value 10 v))) h in let l = ltb-true (digits_value 10 v) 4294967296 p.0 in omega arith
 
 -- ---- a name of a program is a name
 

@@ -11,7 +11,7 @@ use Rattle.qasm_lex.specs.Tokens.{tokens_of}
 use Rattle.qasm_parse.specs.declared.tree.Tree.{Tree}
 use Rattle.qasm_parse.specs.Pass.{HasTree, HasFault}
 use Rattle.qasm_expand.specs.Limits.{passing}
-use Rattle.rotation_list.specs.ListText.{list_circuit}
+use Rattle.product_list.specs.ListText.{list_circuit}
 use Rattle.rotation_list.specs.Items.{IsTreeOf, IsProgram, circuit_of}
 use Rattle.rotation_list.specs.Texts.{IsFaulty, IsRefused, StandsFor, is_list}
 use Rattle.rotation_list.specs.Texts.IsFaulty.{untokened, untreed, unbounded}

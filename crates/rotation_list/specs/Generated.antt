@@ -8,13 +8,13 @@ use Rattle.source_model.specs.declared.Kind.{Kind}
 use Rattle.source_model.specs.declared.Kind.TheVariants as kind
 use Rattle.source_model.specs.Circuits.{kinds}
 use Rattle.rotation_list.specs.Gates.{t_gate, h_gate, s_gate, controlled, measured}
-use Rattle.rotation_list.specs.Printed.{line_text}
+use Rattle.product_list.specs.Printed.{line_text}
 
--- the number behind one
+-- the number after one
 abbrev pub next_number : ℕ → ℕ
 next_number x = (75 * x + 74) % 65537
 
--- a draw is one of these numbers, the first one that behind n
+-- a draw is one of these numbers, the first one that after n
 unfoldable pub draw : ℕ → ℕ → ℕ
 draw n zero = n
 draw n (suc j) = next_number (draw n j)

@@ -5,8 +5,6 @@ use Rattle.source_model.specs.declared.Circuit.{Circuit}
 use Rattle.source_model.specs.declared.Item.{Item}
 use Rattle.source_model.specs.declared.Register.{Register}
 use Rattle.source_model.specs.Circuits.{IsOneLine}
-use Rattle.source_model.specs.SourceRun.{axis_of}
-use Rattle.source_model.specs.Used.{acts_at}
 use Rattle.qasm_lex.specs.Tokens.{tokens_of}
 use Rattle.qasm_lex.specs.declared.Token.{Token}
 use Rattle.qasm_parse.specs.declared.tree.Gate1.{Gate1}
@@ -71,10 +69,6 @@ unfoldable pub items_from : ℕ → ℕ → List Flat → List Item
 items_from n next [] = []
 items_from n next (f ∷ fs) = flat_items n next f ++ items_from n (next + hidden_in f) fs
 
--- an item's axis has a letter other than I
-abbrev pub HasLetter : Item → Type 0
-HasLetter i = (q : ℕ) × IsTrue (acts_at (axis_of i) q)
-
 -- an operation acts on the first so many qubits
 abbrev pub ActsBelow : ℕ → Flat → Type 0
 ActsBelow n (flats.Gate1 gate q) = q < n
@@ -98,7 +92,7 @@ pub record HasNames (text : List ℕ) (tree : Tree) : Type 0 where
   pub few : length tree.classical ≤ 64
   pub named : All (IsNamed text) tree.classical
 
--- the circuit of a tree; hidden bits are numbered behind all bits of registers
+-- the circuit of a tree; hidden bits are numbered after all bits of registers
 unfoldable pub circuit_of : List ℕ → Tree → Circuit
 circuit_of text tree = record {
   qubits = members tree.quantum;

@@ -1,11 +1,10 @@
-pub mod ListText
-pub mod Lines
-pub mod Headers
-pub mod Needs
-pub mod Pulled
-pub mod Printed
+pub use Rattle.product_list.specs.ListText
+pub use Rattle.product_list.specs.Printed
+pub use Rattle.product_list.specs.Listable
+pub use Rattle.static_products.specs.Needs
+pub use Rattle.static_products.specs.Pulled
 pub mod Gates
 pub mod Items
 pub mod Texts
 pub mod Generated
-pub mod ReadBack
+pub mod Laws

@@ -11,7 +11,7 @@ use Rattle.qasm_lex.specs.declared.fault.CircuitFault.TheVariants as fault
 use Rattle.qasm_parse.specs.declared.tree.Tree.{Tree}
 use Rattle.qasm_parse.specs.Pass.{HasFault}
 use Rattle.qasm_expand.specs.Limits.{passing}
-use Rattle.rotation_list.specs.ListText.{list_circuit}
+use Rattle.product_list.specs.ListText.{list_circuit}
 use Rattle.rotation_list.specs.Items.{IsTreeOf, IsProgram, circuit_of}
 
 -- the nine bytes with which a product list begins
@@ -34,14 +34,14 @@ pub data IsFaulty (text : List ℕ) : ℕ → FaultKind → Type 0 where
   untreed : (tokens : List Token) (line : ℕ) (kind : FaultKind) → tokens_of text ≡ Ok tokens → HasFault text tokens line kind → IsFaulty text line kind
   unbounded : (tree : Tree) (line : ℕ) → IsTreeOf text tree → passing tree ≡ Some line → IsFaulty text line TooMany
 
--- the fault of the text; want of memory is none
+-- the fault of the text; out of memory is none
 abbrev pub IsRefused : List ℕ → CircuitFault → Type 0
 IsRefused text fault.Memory = ⊥
 IsRefused text (fault.At line kind) =
     ((is_list text ≡ true) × (list_circuit text ≡ Err (fault.At line kind)))
     ⊎ ((is_list text ≡ false) × IsFaulty text line kind)
 
--- what a program is refused with, or want of memory
+-- what a program is refused with, or out of memory
 abbrev pub FaultOf : List ℕ → CircuitFault → Type 0
 FaultOf text fault.Memory = Unit {0}
 FaultOf text (fault.At line kind) = IsFaulty text line kind

@@ -1,7 +1,8 @@
 //! Gates as turns about Pauli products (Litinski 2019, section 1).
 
-ghost use Rattle.std.specs.Prelude.{◌≡◌, ◌<◌, ◌≤◌, ◌++◌, ◌∷◌, [], false, IfOk, OnOk};
-ghost use Rattle.source_model.specs.declared.Angle.TheVariants.{Half};
+ghost use Rattle.std.specs.Prelude.{◌≡◌, ◌<◌, ◌≤◌, ◌++◌, ◌∷◌, [], true, false, IfOk, OnOk};
+ghost use Rattle.pauli_product.specs.declared.Letter.TheVariants.{Z};
+ghost use Rattle.source_model.specs.declared.Angle.TheVariants.{Half, Quarter};
 ghost use Rattle.rotation_list.specs.Gates.{one_letter, two_letters, turn_one, t_gate, s_gate, sx_gate, h_gate, controlled, measured, conditional, reset_by};
 
 use patch_base::Memory;
@@ -63,7 +64,8 @@ fn push_turn(
 ) -> Result<(), Memory>
     requires few { qubits ≤ 1024 }
     requires within { q < qubits }
-    ensures { OnOk result (items.new.items ≡ items.old.items ++ turn_one qubits minus q letter angle ∷ []) }
+    ensures { OnOk result (items.new.items ≡ items.old.items
+        ++ turn_one qubits minus q letter angle ∷ []) }
 {
     let axis = one_letter(alloc, qubits, minus, q, letter)?;
     items.push(Item::Turn { axis, angle })?;
@@ -128,21 +130,33 @@ pub(crate) fn push_controlled(
     requires few { qubits ≤ 1024 }
     requires control_within { control < qubits }
     requires target_within { target < qubits }
-    ensures { OnOk result (items.new.items ≡ items.old.items ++ controlled qubits letter control target) }
+    ensures { OnOk result (items.new.items ≡ items.old.items
+        ++ controlled qubits letter control target) }
 {
     let axis = two_letters(alloc, qubits, control, Letter::Z, target, letter)?;
     let angle = Angle::Quarter;
     items.push(Item::Turn { axis, angle })?;
+    push_single_turns(alloc, qubits, letter, control, target, items)
+}
+
+// Appends the pi/4 rotations about the minus letter of the target and about -Z of the control.
+fn push_single_turns(
+    alloc: Global,
+    qubits: u32,
+    letter: Letter,
+    control: u32,
+    target: u32,
+    items: &mut Vec<Item>,
+) -> Result<(), Memory>
+    requires few { qubits ≤ 1024 }
+    requires control_within { control < qubits }
+    requires target_within { target < qubits }
+    ensures { OnOk result (items.new.items ≡ items.old.items
+        ++ turn_one qubits true target letter Quarter ∷ turn_one qubits true control Z Quarter ∷ []) }
+{
     push_turn(alloc, qubits, true, target, letter, Angle::Quarter, items)?;
-    push_turn(
-        alloc,
-        qubits,
-        true,
-        control,
-        Letter::Z,
-        Angle::Quarter,
-        items,
-    )
+    let letter = Letter::Z;
+    push_turn(alloc, qubits, true, control, letter, Angle::Quarter, items)
 }
 
 /// Appends a measurement of +Z into a bit.
@@ -172,7 +186,8 @@ pub(crate) fn push_half(
 ) -> Result<(), Memory>
     requires few { qubits ≤ 1024 }
     requires within { q < qubits }
-    ensures { OnOk result (items.new.items ≡ items.old.items ++ turn_one qubits false q letter Half ∷ []) }
+    ensures { OnOk result (items.new.items ≡ items.old.items
+        ++ turn_one qubits false q letter Half ∷ []) }
 {
     push_turn(alloc, qubits, false, q, letter, Angle::Half, items)
 }
@@ -205,7 +220,8 @@ pub(crate) fn push_conditional(
 ) -> Result<(), Memory>
     requires few { qubits ≤ 1024 }
     requires within { q < qubits }
-    ensures { OnOk result (items.new.items ≡ items.old.items ++ conditional qubits letter q first size value) }
+    ensures { OnOk result (items.new.items ≡ items.old.items
+        ++ conditional qubits letter q first size value) }
 {
     let axis = one_letter(alloc, qubits, false, q, letter)?;
     items.push(Item::If {

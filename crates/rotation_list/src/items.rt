@@ -14,7 +14,7 @@ use qasm_parse::{Gate1, Gate2};
 use source_model::Item;
 use std::alloc::Global;
 
-/// The items of flat operations on so many qubits, and how many hidden bits they take, which are numbered behind so many bits.
+/// The items of flat operations on so many qubits, and how many hidden bits they take, which are numbered after so many bits.
 pub(crate) fn program_items(
     alloc: Global,
     qubits: u32,
@@ -114,7 +114,8 @@ fn push_two(
     requires few { qubits ≤ 1024 }
     requires control_within { control < qubits }
     requires target_within { target < qubits }
-    ensures { OnOk result (items.new.items ≡ items.old.items ++ two_gate qubits gate control target) }
+    ensures { OnOk result (items.new.items ≡ items.old.items
+        ++ two_gate qubits gate control target) }
 {
     let letter = match gate {
         Gate2::Cx => Letter::X,
@@ -137,7 +138,8 @@ fn push_if(
 ) -> Result<(), Memory>
     requires few { qubits ≤ 1024 }
     requires within { q < qubits }
-    ensures { OnOk result (items.new.items ≡ items.old.items ++ conditional_gate qubits gate q first size value) }
+    ensures { OnOk result (items.new.items ≡ items.old.items
+        ++ conditional_gate qubits gate q first size value) }
 {
     let letter = match gate {
         Gate1::X => Letter::X,

@@ -1,17 +1,16 @@
 //! Jobs that are made from a number.
 
-ghost use Rattle.std.specs.Prelude.{◌≡◌, ℕ, ◌<◌, ◌≤◌, ◌^◌, ◌+◌, ◌*◌, ◌/◌, ◌%◌, ◌==◌, ◌++◌, ◌∷◌, [], codes, IfOk, OnOk};
+ghost use Rattle.std.specs.Prelude.{◌≡◌, ℕ, ◌<◌, ◌≤◌, ◌^◌, ◌+◌, ◌*◌, ◌/◌, ◌%◌, ◌==◌, ◌++◌, ◌∷◌, [], codes, decimal, IfOk, OnOk};
 ghost use Rattle.source_model.specs.Circuits.{WellFormed, kinds};
 ghost use Rattle.patch_base.specs.Texts.{digit, spaced};
 ghost use Rattle.rotation_list.specs.Generated.{next_number, draw, operation, measurements, big_items, big_circuit, big_layout, big_outcomes, outcome_lines, outcome_words};
-ghost use Rattle.rotation_list.specs.Printed.{line_text};
+ghost use Rattle.product_list.specs.Printed.{line_text};
 
 use crate::gates::{push_controlled, push_h, push_measure, push_s, push_t};
-use crate::print::{end_line, print_number};
-use crate::pulls::kind_of;
-use patch_base::Memory;
+use patch_base::{Memory, put_decimal};
 use pauli_product::Letter;
 use source_model::{Circuit, Item, Items, Kind, Name, Register, Registers};
+use static_products::kind_of;
 use std::alloc::Global;
 use std::marker::Model;
 
@@ -66,11 +65,11 @@ pub struct Big {
 ///
 /// The circuit has 8 qubits and, so many times, an operation by three draws; then each qubit is
 /// measured. The outcomes follow by one draw for each product, and one run fails. The draws are the
-/// numbers `x` behind one another, of which each next one is `(75 x + 74) mod 65537`.
+/// numbers `x` after one another, of which each next one is `(75 x + 74) mod 65537`.
 ///
 /// # Errors
 ///
-/// `Memory` where memory is wanting.
+/// `Memory` where memory runs out.
 pub fn generate(alloc: Global, n: u32) -> Result<Big, Memory>
     ensures circuit { IfOk result (λ big. big.circuit ≡ big_circuit n) }
     ensures formed { IfOk result (λ big. WellFormed big.circuit) }
@@ -93,7 +92,7 @@ pub fn generate(alloc: Global, n: u32) -> Result<Big, Memory>
     })
 }
 
-// The number behind one.
+// The number after one.
 fn next_number(x: u64) -> u64
     requires { x < 2 ^ 32 }
     ensures value { result ≡ next_number x }
@@ -168,11 +167,12 @@ fn one_register(alloc: Global) -> Result<Vec<Register>, Memory>
     Ok(registers)
 }
 
-// The outcomes of the items' products, by the numbers behind the last one.
+// The outcomes of the items' products, by the numbers after the last one.
 fn generate_outcomes(alloc: Global, items: &[Item], last: u64) -> Result<Vec<u8>, Memory>
     requires { last < 2 ^ 32 }
     ensures { IfOk result (λ text. (n d : ℕ) → last ≡ draw n d
-        → text.items ≡ codes "outcomes 1\n" ++ outcome_lines n d 0 (kinds items.now) ++ codes "f 0 0\n") }
+        → text.items ≡ codes "outcomes 1\n" ++ outcome_lines n d 0 (kinds items.now)
+        ++ codes "f 0 0\n") }
 {
     let mut text = Vec::new(alloc);
     text.extend_from_slice(b"outcomes 1\n")?;
@@ -191,16 +191,18 @@ fn generate_outcomes(alloc: Global, items: &[Item], last: u64) -> Result<Vec<u8>
 
 // The line of a product's outcomes by its draw.
 fn print_outcome(kind: Kind, product: u64, drawn: u64, into: &mut Vec<u8>) -> Result<(), Memory>
-    ensures { OnOk result (into.new.items ≡ into.old.items ++ line_text (outcome_words kind product drawn)) }
+    ensures { OnOk result (into.new.items ≡ into.old.items
+        ++ line_text (outcome_words kind product drawn)) }
 {
     print_given(kind, product, drawn, into)?;
-    end_line(into)?;
+    into.push(b'\n')?;
     Ok(())
 }
 
 // The words of a product's outcomes.
 fn print_given(kind: Kind, product: u64, drawn: u64, into: &mut Vec<u8>) -> Result<(), Memory>
-    ensures { OnOk result (into.new.items ≡ into.old.items ++ spaced (outcome_words kind product drawn)) }
+    ensures { OnOk result (into.new.items ≡ into.old.items
+        ++ spaced (outcome_words kind product drawn)) }
 {
     match kind {
         Kind::Rotation => {
@@ -216,6 +218,14 @@ fn print_given(kind: Kind, product: u64, drawn: u64, into: &mut Vec<u8>) -> Resu
         }
         Kind::Settle { .. } => Ok(()),
     }
+}
+
+// A space and a number.
+fn print_number(number: u64, into: &mut Vec<u8>) -> Result<(), Memory>
+    ensures { OnOk result (into.new.items ≡ into.old.items ++ 32 ∷ decimal number) }
+{
+    into.push(b' ')?;
+    put_decimal(number, into)
 }
 
 // A space and a truth value.

@@ -1,25 +1,14 @@
-//! Circuits as texts: programs and product lists read, product lists printed, the static products of a circuit, what it
-//! needs of a layout, and the jobs that are made from a number.
+//! Circuits as texts: programs and product lists read, and the jobs that are made from a number.
 #![tactic(auto)]
 
-mod draft;
 mod gates;
 mod items;
 mod jobs;
-mod laws;
-mod line;
-mod list;
-mod needs;
-mod print;
-mod pulls;
+mod law;
 mod reading;
-#[cfg(test)]
-mod tests;
 
 pub use jobs::{Big, Text, generate};
-pub use laws::law_printed;
-pub use list::read_list;
-pub use needs::need;
-pub use print::print_products;
-pub use pulls::statics;
+pub use law::{law_answer, law_one_circuit, law_printed};
+pub use product_list::{print_products, read_list};
 pub use reading::read_circuit;
+pub use static_products::{need, statics};

@@ -7,15 +7,17 @@ ghost use Rattle.source_model.specs.Circuits.{WellFormed, kinds};
 ghost use Rattle.qasm_lex.specs.declared.fault.CircuitFault.TheVariants as fault;
 ghost use Rattle.qasm_expand.specs.Flats.{flats_of};
 ghost use Rattle.qasm_expand.specs.Sound.{IsSound, members};
-ghost use Rattle.rotation_list.specs.Items.{ActsBelow, HasLetter, HasNames, IsNamed, IsTreeOf, circuit_of, register_in};
+ghost use Rattle.rotation_list.specs.Items.{ActsBelow, HasNames, IsNamed, IsTreeOf, circuit_of, register_in};
+ghost use Rattle.product_list.specs.Listable.{HasLetter};
 ghost use Rattle.rotation_list.specs.Texts.{FaultOf, IsProgramOf, IsRefused, StandsFor, is_list};
 
 use crate::items::program_items;
-use crate::list::read_list;
+use crate::law::law_one_circuit;
 use patch_base::Memory;
+use product_list::read_list;
 use qasm_expand::{Flat, expand, law_placed, law_sound};
 use qasm_lex::{CircuitFault, tokens};
-use qasm_parse::{Declared, Tree, law_one_fault, law_one_tree, law_tree_or_fault, parse};
+use qasm_parse::{Declared, Tree, parse};
 use source_model::{Circuit, Items, Name, Register, Registers};
 use std::alloc::Global;
 
@@ -27,29 +29,20 @@ use std::alloc::Global;
 /// # Errors
 ///
 /// That of `read_list` for a product list, and else the first fault of the tokens, of the grammar and the names, and of the limits on
-/// operations and products. `Memory` where memory is wanting.
+/// operations and products. `Memory` where memory runs out.
 pub fn read_circuit(alloc: Global, text: &[u8]) -> Result<Circuit, CircuitFault>
     ensures read { IfOk result (StandsFor text.now) }
     ensures formed { IfOk result (λ c. WellFormed c) }
     ensures few { IfOk result (λ c. length (kinds c.items) ≤ 16384) }
     ensures letters { IfOk result (λ c. All HasLetter c.items) }
     ensures refused { IfErr result (λ f. (f ≡ fault.Memory) ⊎ IsRefused text.now f) }
-    ensures exact { (c : Circuit) → StandsFor text.now c → MatchResult result (λ d. d ≡ c) (λ f. f ≡ fault.Memory) }
-    ensures faults { (f : CircuitFault) → IsRefused text.now f → MatchResult result (λ d. ⊥) (λ e. (e ≡ f) ⊎ (e ≡ fault.Memory)) }
+    ensures exact { (c : Circuit) → StandsFor text.now c
+        → MatchResult result (λ d. d ≡ c) (λ f. f ≡ fault.Memory) }
+    ensures faults { (f : CircuitFault) → IsRefused text.now f
+        → MatchResult result (λ d. ⊥) (λ e. (e ≡ f) ⊎ (e ≡ fault.Memory)) }
 {
     law_one_circuit();
     read_either(alloc, text)
-}
-
-/// A text stands for one circuit at most; where it stands for one it isn't refused, and else it has one fault at most.
-pub fn law_one_circuit()
-    ensures one { (text : List ℕ) (c d : Circuit) → StandsFor text c → StandsFor text d → c ≡ d }
-    ensures apart { (text : List ℕ) (c : Circuit) (f : CircuitFault) → StandsFor text c → IsRefused text f → ⊥ }
-    ensures one_fault { (text : List ℕ) (f g : CircuitFault) → IsRefused text f → IsRefused text g → f ≡ g }
-{
-    law_one_tree();
-    law_tree_or_fault();
-    law_one_fault();
 }
 
 // The circuit of a text in either form.

@@ -2,8 +2,7 @@ use Rattle.std.proofs.Common.{◌+◌, ◌++◌, List, ℕ, codes, drop, sym, �
 use Rattle.source_model.specs.Circuits.{kinds}
 use Rattle.source_model.specs.declared.Item.{Item}
 use Rattle.rotation_list.specs.Generated.{outcome_lines}
-use Rattle.rotation_list.proofs.Pulling.{next_item}
-use Rattle.rotation_list.proofs.Drawing.{Remains, remains_first, remains_product, remains_turn, remains_none, drop_past}
+use Rattle.rotation_list.proofs.Drawing.{next_item, Remains, remains_first, remains_product, remains_turn, remains_none, drop_past}
 use Rattle.rotation_list.proofs.jobs.generate_outcomes.Goals as goal
 use Rattle.rotation_list.proofs.jobs.generate_outcomes.Goals.{in-Some+in_ok-print_outcome, in_default}
 

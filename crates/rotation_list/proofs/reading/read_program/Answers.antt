@@ -3,7 +3,8 @@ use Rattle.source_model.specs.Circuits.{WellFormed, kinds}
 use Rattle.source_model.specs.declared.Circuit.{Circuit}
 use Rattle.qasm_expand.specs.Flats.{flats_of}
 use Rattle.qasm_expand.specs.Sound.{members}
-use Rattle.rotation_list.specs.Items.{ActsBelow, HasLetter}
+use Rattle.rotation_list.specs.Items.{ActsBelow}
+use Rattle.product_list.specs.Listable.{HasLetter}
 use Rattle.std.proofs.lemmas.Result.{err_from_is_err_and}
 use Rattle.rotation_list.proofs.Answering.{past_fault}
 use Rattle.rotation_list.proofs.Programs.{all_act, program_few, program_formed, program_lettered}

@@ -1,0 +1,13 @@
+pub mod Wording
+pub mod Axes
+pub mod Ruling
+pub mod Texts
+pub mod Printing
+pub mod Plain
+pub mod Declared
+pub mod Formed
+pub mod Lettered
+pub mod LinesBack
+pub mod ReadBack
+pub mod Answered
+pub mod Laws

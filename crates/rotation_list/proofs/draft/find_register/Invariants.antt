@@ -1,6 +1,0 @@
-use Rattle.std.proofs.Common.{◌≡◌, drop}
-use Rattle.rotation_list.specs.ListText.{named}
-use Rattle.rotation_list.proofs.draft.find_register.Given as goal
-
-abbrev pub invariant-loop-register : goal.invariant-loop-register
-invariant-loop-register l = named l.registers l.name ≡ named (drop l.register-index l.registers) l.name

@@ -1,0 +1,5 @@
+use Rattle.rotation_list.proofs.Laws.{circuit_or_fault}
+use Rattle.rotation_list.proofs.law.law_answer.Goals as goal
+
+pub returns : goal.returns
+returns c = circuit_or_fault

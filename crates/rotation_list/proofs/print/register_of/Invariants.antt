@@ -1,6 +1,0 @@
-use Rattle.std.proofs.Common.{◌≡◌, drop}
-use Rattle.rotation_list.specs.Printed.{register_of}
-use Rattle.rotation_list.proofs.print.register_of.Given as goal
-
-abbrev pub invariant-loop-register : goal.invariant-loop-register
-invariant-loop-register l = register_of l.registers l.first l.size ≡ register_of (drop l.register-index l.registers) l.first l.size
