@@ -106,8 +106,10 @@ fn ends_in(text: &[u8], end: &[u8]) -> bool
 fn is_same(wanted: End<'_>, came: End<'_>) -> bool
     ensures status { IsTrue result → came.entry.status ≡ wanted.entry.status }
     ensures error { IsTrue result → came.entry.error.now ≡ wanted.entry.error.now }
-    ensures output { IsTrue result → wanted.entry.is_end ≡ false → came.entry.output.now ≡ wanted.entry.output.now }
-    ensures end { IsTrue result → wanted.entry.is_end ≡ true → EndsIn came.entry.output.now wanted.entry.output.now }
+    ensures output { IsTrue result → wanted.entry.is_end ≡ false →
+        came.entry.output.now ≡ wanted.entry.output.now }
+    ensures end { IsTrue result → wanted.entry.is_end ≡ true →
+        EndsIn came.entry.output.now wanted.entry.output.now }
 {
     let output = if wanted.is_end {
         ends_in(came.output, wanted.output)

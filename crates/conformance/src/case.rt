@@ -198,9 +198,7 @@ fn append(alloc: Global, line: &str, text: &mut Vec<u8>) -> Result<()> {
     match head {
         "times" => {
             let piece = piece(alloc, line_again)?;
-            for _ in 0..number.parse::<u32>()? {
-                text.extend_from_slice(&piece)?;
-            }
+            repeat(alloc, &piece, number.parse::<u32>()?, text)?;
         }
         "count" => {
             for n in 0..number.parse::<u32>()? {
@@ -208,6 +206,26 @@ fn append(alloc: Global, line: &str, text: &mut Vec<u8>) -> Result<()> {
             }
         }
         _ => text.extend_from_slice(&piece(alloc, line)?)?,
+    }
+    Ok(())
+}
+
+// How many copies of a piece are appended at once.
+const BLOCK: u32 = 1_024;
+
+// Appends copies of a piece.
+fn repeat(alloc: Global, piece: &[u8], times: u32, text: &mut Vec<u8>) -> Result<()> {
+    let mut block = Vec::new(alloc);
+    if times >= BLOCK {
+        for _ in 0..BLOCK {
+            block.extend_from_slice(piece)?;
+        }
+    }
+    for _ in 0..times / BLOCK {
+        text.extend_from_slice(&block)?;
+    }
+    for _ in 0..times % BLOCK {
+        text.extend_from_slice(piece)?;
     }
     Ok(())
 }
