@@ -1,11 +1,10 @@
 -- The names of a program's classical registers stand in its text, each on one line, and there are few of them.
-use Rattle.std.proofs.Common.{◌≡◌, ℕ, zero, suc, ◌+◌, ◌-◌, ◌<◌, ◌≤◌, Bool, true, false, IsTrue, ◌&&◌, ◌||◌, ◌==◌, not, cond, nat_lt, nat_le, List, [], ◌∷◌, length, map, take, drop, slice_get, slice_range, get_or, Option, Some, None, Result, Ok, Err, refl, sym, subst, ◌∙◌, ap, arith}
-use Rattle.std.specs.List.{list_all, prefix_len}
+use Rattle.std.proofs.Common.{◌≡◌, ℕ, zero, suc, ◌+◌, ◌<◌, ◌≤◌, Bool, true, false, IsTrue, ◌||◌, ◌==◌, cond, nat_lt, nat_le, List, [], ◌∷◌, length, map, slice_get, slice_range, Option, Some, None, Result, Ok, Err, refl, sym, subst, ◌∙◌, ap, arith}
+use Rattle.std.specs.List.{list_all}
 use Rattle.std.specs.Str.{bytes_eq}
 use Rattle.std.specs.Prelude.{codes}
 use Rattle.std.proofs.lemmas.Bool.{and_from, or_left}
 use Rattle.std.proofs.lemmas.Bool.Decides.{nat_tests}
-use Rattle.std.proofs.lemmas.Grind.{common_steps}
 use Rattle.std.proofs.lemmas.List.{length_push}
 use Rattle.std.proofs.lemmas.List.Elements.{All-nil, All-cons, All-append}
 use Rattle.qasm_lex.specs.declared.TokenKind.{TokenKind}
@@ -13,8 +12,6 @@ use Rattle.qasm_lex.specs.declared.TokenKind.TheVariants as kinds
 use Rattle.qasm_lex.specs.declared.Token.{Token}
 use Rattle.qasm_lex.specs.declared.fault.FaultKind.{FaultKind}
 use Rattle.qasm_lex.specs.declared.fault.FaultKind.TheVariants as faults
-use Rattle.qasm_lex.specs.declared.fault.CircuitFault.{CircuitFault}
-use Rattle.qasm_lex.specs.declared.fault.CircuitFault.TheVariants as circuits
 use Rattle.qasm_lex.specs.Forms.{IsToken}
 use Rattle.qasm_lex.specs.Tokens.{IsPlaced, tokens_of, is_digit, starts_word, is_word_byte}
 use Rattle.qasm_lex.proofs.Laws.{forms_of_kinds}

@@ -1,5 +1,5 @@
 -- The items of a program: its flat operations, each replaced by its turns, measurements and settled products.
-use Rattle.std.specs.Prelude.{◌≡◌, ℕ, ◌+◌, ◌<◌, ◌≤◌, true, false, List, length, [], ◌∷◌, ◌++◌, map, sum_by, slice_range, Ok, None, All, IsTrue}
+use Rattle.std.specs.Prelude.{◌≡◌, ℕ, ◌+◌, ◌<◌, ◌≤◌, true, false, List, length, [], ◌∷◌, ◌++◌, map, sum_by, slice_range, Ok, None, All}
 use Rattle.pauli_product.specs.declared.Letter.TheVariants.{X, Y, Z}
 use Rattle.source_model.specs.declared.Circuit.{Circuit}
 use Rattle.source_model.specs.declared.Item.{Item}
