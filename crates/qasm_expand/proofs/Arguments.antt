@@ -7,11 +7,11 @@ use Rattle.std.proofs.lemmas.List.Elements.{All-nil, All-cons, All-head, All-tai
 use Rattle.std.proofs.lemmas.List.Quantifiers.{position-Some}
 use Rattle.std.proofs.lemmas.Option.{none-some, same_Some, option_and_then_some}
 use Rattle.qasm_lex.specs.declared.fault.FaultKind.TheVariants.{Undeclared, Index, Arity, Sizes, SameQubit, TooMany}
-use Rattle.qasm_parse.specs.declared.follow.Stop.{Stop}
-use Rattle.qasm_parse.specs.declared.spoken.Argument.{Argument}
-use Rattle.qasm_parse.specs.declared.spoken.Argument.TheVariants as arguments
-use Rattle.qasm_parse.specs.declared.spoken.BodyStatement.{BodyStatement}
-use Rattle.qasm_parse.specs.declared.spoken.BodyStatement.TheVariants as bodies
+use Rattle.qasm_parse.specs.declared.stop.Stop.{Stop}
+use Rattle.qasm_grammar.specs.declared.spoken.Argument.{Argument}
+use Rattle.qasm_grammar.specs.declared.spoken.Argument.TheVariants as arguments
+use Rattle.qasm_grammar.specs.declared.spoken.BodyStatement.{BodyStatement}
+use Rattle.qasm_grammar.specs.declared.spoken.BodyStatement.TheVariants as bodies
 use Rattle.qasm_parse.specs.declared.tree.Arg.{Arg}
 use Rattle.qasm_parse.specs.declared.tree.GateDef.{GateDef}
 use Rattle.qasm_parse.specs.declared.tree.Gate1.{Gate1}
@@ -209,11 +209,11 @@ body_call_sound x k names at g args call e =
 
 pub op_sound : (x : Lexed) (k : Known) (names : List (List ℕ)) (op : BodyStatement) → IsKnown k → first_fault (body_faults x k names op) ≡ None → IsSoundOp k.tree.gates (length names) (op_of x k names op)
 op_sound x k names (bodies.Call name brackets args) known e =
-    let n = named_gate (gate_named k (word_at x name)) name (λ g. body_call_faults x names name g args.items) e in
+    let n = named_gate (gate_named k (word_at x name)) name (λ g. body_call_faults x names name g args) e in
     let same : gate_of x k name ≡ n.gate = ap (λ o. unwrap_or o cx) n.found in
-    subst (λ (g : Called). IsSoundBodyCall k.tree.gates (length names) g.gate (map (formal_of x names) args.items)) (sym same)
-    (body_call_sound x k names name n.gate args.items (gate_sound k known (word_at x name) n.gate n.found) n.unbroken)
-op_sound x k names (bodies.Cx at args) known e = body_call_sound x k names at cx args.items refl e
+    subst (λ (g : Called). IsSoundBodyCall k.tree.gates (length names) g.gate (map (formal_of x names) args)) (sym same)
+    (body_call_sound x k names name n.gate args (gate_sound k known (word_at x name) n.gate n.found) n.unbroken)
+op_sound x k names (bodies.Cx at args) known e = body_call_sound x k names at cx args refl e
 op_sound x k names (bodies.Barrier args) known e = tt
 
 pub body_sound : (x : Lexed) (k : Known) (names : List (List ℕ)) (body : List BodyStatement) → IsKnown k → All (λ op. first_fault (body_faults x k names op) ≡ None) body → All (IsSoundOp k.tree.gates (length names)) (map (op_of x k names) body)

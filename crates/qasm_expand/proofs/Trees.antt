@@ -8,12 +8,12 @@ use Rattle.std.proofs.lemmas.List.Elements.{All-nil, All-cons, All-head}
 use Rattle.std.proofs.lemmas.Option.{none-some, slice_get-get_or}
 use Rattle.qasm_lex.specs.declared.fault.FaultKind.TheVariants.{Undeclared, Sizes, TooMany, Declared, Unsupported}
 use Rattle.qasm_lex.specs.declared.Token.{Token}
-use Rattle.qasm_parse.specs.declared.follow.Stop.{Stop}
-use Rattle.qasm_parse.specs.declared.spoken.Argument.{Argument}
-use Rattle.qasm_parse.specs.declared.spoken.GateCall.{GateCall}
-use Rattle.qasm_parse.specs.declared.spoken.BodyStatement.{BodyStatement}
-use Rattle.qasm_parse.specs.declared.spoken.Sentence.{Sentence}
-use Rattle.qasm_parse.specs.declared.spoken.Sentence.TheVariants as sentences
+use Rattle.qasm_parse.specs.declared.stop.Stop.{Stop}
+use Rattle.qasm_grammar.specs.declared.spoken.Argument.{Argument}
+use Rattle.qasm_grammar.specs.declared.spoken.GateCall.{GateCall}
+use Rattle.qasm_grammar.specs.declared.spoken.BodyStatement.{BodyStatement}
+use Rattle.qasm_grammar.specs.declared.spoken.Sentence.{Sentence}
+use Rattle.qasm_grammar.specs.declared.spoken.Sentence.TheVariants as sentences
 use Rattle.qasm_parse.specs.declared.tree.Arg.{Arg}
 use Rattle.qasm_parse.specs.declared.tree.Callee.TheVariants.{Defined}
 use Rattle.qasm_parse.specs.declared.tree.GateDef.{GateDef}
@@ -26,6 +26,7 @@ use Rattle.qasm_parse.specs.declared.known.Span.{Span}
 use Rattle.qasm_parse.specs.declared.known.Called.{Called}
 use Rattle.qasm_parse.specs.declared.known.Meaning.TheVariants.{Quantum, Classical, Gate}
 use Rattle.qasm_parse.specs.Lexed.{Lexed, word_at, number_at, line_of}
+use Rattle.qasm_parse.specs.Refused.{told}
 use Rattle.qasm_parse.specs.Gates.{cx}
 use Rattle.qasm_parse.specs.Grammar.{one_version}
 use Rattle.qasm_parse.specs.Forms.{reads}
@@ -168,28 +169,28 @@ gate_step x k name formals body known ops =
 -- a gate that is called by its name
 named_call_sound : (x : Lexed) (k : Known) (at : ℕ) (c : GateCall) → IsKnown k → first_fault (named_call_faults x k at c) ≡ None → IsSoundStatement k.tree (call_statement x k at c)
 named_call_sound x k at c known e =
-    let n = named_gate (gate_named k (word_at x c.name)) c.name (λ g. call_faults x k at g c.args.items) e in
+    let n = named_gate (gate_named k (word_at x c.name)) c.name (λ g. call_faults x k at g c.args) e in
     let same : gate_of x k c.name ≡ n.gate = ap (λ o. unwrap_or o cx) n.found in
-    subst (λ (g : Called). IsSoundCall k.tree g.gate (all_meant x (quantum_named k) c.args.items)) (sym same)
-    (call_sound x k at n.gate c.args.items known (gate_sound k known (word_at x c.name) n.gate n.found) n.unbroken)
+    subst (λ (g : Called). IsSoundCall k.tree g.gate (all_meant x (quantum_named k) c.args)) (sym same)
+    (call_sound x k at n.gate c.args known (gate_sound k known (word_at x c.name) n.gate n.found) n.unbroken)
 
 -- a gate under a condition
 if_sound : (x : Lexed) (k : Known) (at register value : ℕ) (c : GateCall) → IsKnown k → first_fault (if_faults x k at register c) ≡ None → IsSoundStatement k.tree (if_statement x k at register value c)
 if_sound x k at register value c known e =
-    let others : Called → List (Option Stop) = λ g. undeclared x (classical_named k) register ∷ call_faults x k at g c.args.items in
+    let others : Called → List (Option Stop) = λ g. undeclared x (classical_named k) register ∷ call_faults x k at g c.args in
     let found : Option Called = gate_named k (word_at x c.name) in
     let own : is_own_gate k (word_at x c.name) ≡ false = unbroken Unsupported (is_own_gate k (word_at x c.name)) c.name (none_here (broken Unsupported (is_own_gate k (word_at x c.name)) c.name) (named_faults found c.name others) e) in
     let n = named_gate found c.name others (none_rest (broken Unsupported (is_own_gate k (word_at x c.name)) c.name) (named_faults found c.name others) e) in
-    let rest : first_fault (call_faults x k at n.gate c.args.items) ≡ None = none_rest (undeclared x (classical_named k) register) (call_faults x k at n.gate c.args.items) n.unbroken in
-    let call : IsSoundCall k.tree n.gate.gate (all_meant x (quantum_named k) c.args.items) =
-    call_sound x k at n.gate c.args.items known (gate_sound k known (word_at x c.name) n.gate n.found) rest in
+    let rest : first_fault (call_faults x k at n.gate c.args) ≡ None = none_rest (undeclared x (classical_named k) register) (call_faults x k at n.gate c.args) n.unbroken in
+    let call : IsSoundCall k.tree n.gate.gate (all_meant x (quantum_named k) c.args) =
+    call_sound x k at n.gate c.args known (gate_sound k known (word_at x c.name) n.gate n.found) rest in
     let named : Option Span = classical_named k (word_at x register) in
-    let r = some_of named (unbroken Undeclared (is_none named) register (none_here (undeclared x (classical_named k) register) (call_faults x k at n.gate c.args.items) n.unbroken)) in
+    let r = some_of named (unbroken Undeclared (is_none named) register (none_here (undeclared x (classical_named k) register) (call_faults x k at n.gate c.args) n.unbroken)) in
     let bits : r.0 ≡ span_named named = ap span_named (sym r.1) in
     let declared : IsRegister k.tree.classical r.0.first r.0.size = (classical_sound k known (word_at x register) r.0 r.1).1 in
     let some : 1 ≤ n.gate.arity = takes_one k (word_at x c.name) n.gate own n.found in
-    let args : List Arg = all_meant x (quantum_named k) c.args.items in
-    let arity : length args ≡ n.gate.arity = call_arity x k at n.gate c.args.items rest in
+    let args : List Arg = all_meant x (quantum_named k) c.args in
+    let arity : length args ≡ n.gate.arity = call_arity x k at n.gate c.args rest in
     record {
       within = first_within (members k.tree.quantum) args (subst (λ m. 1 ≤ m) (sym arity) some) call.within;
       register = subst (λ (s : Span). IsRegister k.tree.classical s.first s.size) bits declared;
@@ -240,14 +241,14 @@ behind_sound x k at (sentences.Creg name size) known e =
     let passes : bits_pass k (number_at x size) ≡ false = unbroken TooMany (bits_pass k (number_at x size)) at (none_here limit [] (none_behind (register_faults x k at name size) (limit ∷ []) e)) in
     classical_step x k name (number_at x size) known (some_members x k at name size limit e) (not_lt 16384 (k.bits + number_at x size) (neither (nat_le 64 (length k.tree.classical)) (nat_lt 16384 (k.bits + number_at x size)) passes))
 behind_sound x k at (sentences.Gate name brackets formals body) known e =
-    let names : List (List ℕ) = map (word_at x) formals.items in
-    let bodies = none_flat (body_faults x k names) body.items (none_behind (head_faults x k at name formals.items) (flat_map (body_faults x k names) body.items) e) in
-    let ops = body_sound x k names body.items known bodies in
-    gate_step x k name formals.items body.items known (subst (λ n. All (IsSoundOp k.tree.gates n) (map (op_of x k names) body.items)) (length-map formals.items (word_at x)) ops)
+    let names : List (List ℕ) = map (word_at x) formals in
+    let bodies = none_flat (body_faults x k names) body (none_behind (head_faults x k at name formals) (flat_map (body_faults x k names) body) e) in
+    let ops = body_sound x k names body known bodies in
+    gate_step x k name formals body known (subst (λ n. All (IsSoundOp k.tree.gates n) (map (op_of x k names) body)) (length-map formals (word_at x)) ops)
 behind_sound x k at (sentences.Call c) known e = statement_step k (call_statement x k at c) known (named_call_sound x k at c known e)
 behind_sound x k at (sentences.If register value c) known e = statement_step k (if_statement x k at register value c) known (if_sound x k at register value c known e)
 behind_sound x k at (sentences.Cx args) known e =
-    statement_step k (statements.Call (line_of x at) cx.gate (all_meant x (quantum_named k) args.items)) known (call_sound x k at cx args.items known refl e)
+    statement_step k (statements.Call (line_of x at) cx.gate (all_meant x (quantum_named k) args)) known (call_sound x k at cx args known refl e)
 behind_sound x k at (sentences.Measure from to) known e = statement_step k (measure_statement x k at from to) known (measure_sound x k at from to known e)
 behind_sound x k at (sentences.Barrier args) known e = statement_step k (statements.Barrier (line_of x at)) known tt
 behind_sound x k at (sentences.Reset a) known e =
@@ -289,4 +290,4 @@ behind_version x (Err stop) final reading = absurd (cc)
 pub tree_sound : (text : List ℕ) (tokens : List Token) (tree : Tree) → HasTree text tokens tree → IsSound tree
 tree_sound text tokens tree has =
     let x : Lexed = record { text = text; tokens = tokens } in
-    subst IsSound has.same (behind_version x (reads one_version (terminals x false) 0) has.known has.reading).sound
+    subst IsSound has.same (behind_version x (told (reads one_version (terminals x false) 0)) has.known has.reading).sound

@@ -7,7 +7,7 @@ use Rattle.std.proofs.lemmas.List.Elements.{All-nil, All-cons}
 use Rattle.std.proofs.lemmas.Option.{none-some}
 use Rattle.qasm_lex.specs.declared.fault.FaultKind.{FaultKind}
 use Rattle.qasm_lex.specs.declared.fault.FaultKind.TheVariants.{Unknown}
-use Rattle.qasm_parse.specs.declared.follow.Stop.{Stop}
+use Rattle.qasm_parse.specs.declared.stop.Stop.{Stop}
 use Rattle.qasm_parse.specs.declared.known.Called.{Called}
 use Rattle.qasm_parse.specs.Faults.{broken, first_fault, named_faults}
 

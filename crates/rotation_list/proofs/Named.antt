@@ -15,15 +15,16 @@ use Rattle.qasm_lex.specs.declared.fault.FaultKind.TheVariants as faults
 use Rattle.qasm_lex.specs.Forms.{IsToken}
 use Rattle.qasm_lex.specs.Tokens.{IsPlaced, tokens_of, is_digit, starts_word, is_word_byte}
 use Rattle.qasm_lex.proofs.Laws.{forms_of_kinds}
-use Rattle.qasm_parse.specs.declared.follow.Stop.{Stop}
-use Rattle.qasm_parse.specs.declared.spoken.Sentence.{Sentence}
-use Rattle.qasm_parse.specs.declared.spoken.Sentence.TheVariants as sentences
-use Rattle.qasm_parse.specs.declared.terminal.Terminal.{Terminal}
-use Rattle.qasm_parse.specs.declared.terminal.Terminal.TheVariants as terms
+use Rattle.qasm_parse.specs.declared.stop.Stop.{Stop}
+use Rattle.qasm_grammar.specs.declared.spoken.Sentence.{Sentence}
+use Rattle.qasm_grammar.specs.declared.spoken.Sentence.TheVariants as sentences
+use Rattle.qasm_grammar.specs.declared.terminal.Terminal.{Terminal}
+use Rattle.qasm_grammar.specs.declared.terminal.Terminal.TheVariants as terms
 use Rattle.qasm_parse.specs.declared.tree.Declared.{Declared}
 use Rattle.qasm_parse.specs.declared.tree.Tree.{Tree}
 use Rattle.qasm_parse.specs.declared.known.Known.{Known}
 use Rattle.qasm_parse.specs.Lexed.{Lexed, word_at, number_at, start_of, end_of}
+use Rattle.qasm_parse.specs.Refused.{told}
 use Rattle.qasm_parse.specs.Words.{terminal_of, kind_terminal, real_terminal, quoted_terminal, symbol_terminal}
 use Rattle.qasm_parse.specs.Forms.{fits, reads}
 use Rattle.qasm_parse.specs.Grammar.{one_version}
@@ -211,4 +212,4 @@ pub tree_named : (text : List ℕ) (tree : Tree) → ((tokens : List Token) → 
 tree_named text tree placed made =
     let x : Lexed = record { text = text; tokens = made.tokens } in
     let read : AreRead x = record { placed = placed made.tokens made.lexed; wordy = wordy text made.tokens made.lexed } in
-    subst (HasNames text) made.parsed.same (behind_version x (reads one_version (terminals x false) 0) made.parsed.known read made.parsed.reading)
+    subst (HasNames text) made.parsed.same (behind_version x (told (reads one_version (terminals x false) 0)) made.parsed.known read made.parsed.reading)

@@ -14,16 +14,17 @@ use Rattle.qasm_lex.specs.declared.TokenKind.{TokenKind}
 use Rattle.qasm_lex.specs.declared.TokenKind.TheVariants as token_kinds
 use Rattle.qasm_lex.specs.declared.fault.FaultKind.TheVariants as faults
 use Rattle.qasm_lex.specs.Tokens.{IsPlaced, is_digit, is_whole, is_word_byte as is_token_byte, starts_word, tokens_of}
-use Rattle.qasm_parse.specs.declared.follow.Stop.{Stop}
-use Rattle.qasm_parse.specs.declared.spoken.Sentence.{Sentence}
-use Rattle.qasm_parse.specs.declared.spoken.Sentence.TheVariants as sentences
-use Rattle.qasm_parse.specs.declared.terminal.Terminal.{Terminal}
-use Rattle.qasm_parse.specs.declared.terminal.Terminal.TheVariants as terms
+use Rattle.qasm_parse.specs.declared.stop.Stop.{Stop}
+use Rattle.qasm_grammar.specs.declared.spoken.Sentence.{Sentence}
+use Rattle.qasm_grammar.specs.declared.spoken.Sentence.TheVariants as sentences
+use Rattle.qasm_grammar.specs.declared.terminal.Terminal.{Terminal}
+use Rattle.qasm_grammar.specs.declared.terminal.Terminal.TheVariants as terms
 use Rattle.qasm_parse.specs.declared.known.Known.{Known}
 use Rattle.qasm_parse.specs.declared.tree.Statement.{Statement}
 use Rattle.qasm_parse.specs.declared.tree.Statement.TheVariants as statements
 use Rattle.qasm_parse.specs.declared.tree.Tree.{Tree}
 use Rattle.qasm_parse.specs.Lexed.{Lexed, end_of, number_at, start_of, word_at}
+use Rattle.qasm_parse.specs.Refused.{told}
 use Rattle.qasm_parse.specs.Words.{is_reserved, kind_terminal, quoted_terminal, real_terminal, starts_name, statement_word, symbol_terminal, terminal_of, word_terminal}
 use Rattle.qasm_parse.specs.Forms.{fits, reads}
 use Rattle.qasm_parse.specs.Grammar.{one_version}
@@ -334,5 +335,5 @@ pub tree_tells : (text : List ℕ) (tree : Tree) → ((tokens : List Token) → 
 tree_tells text tree placed made =
     let x : Lexed = record { text = text; tokens = made.tokens } in
     let read : AreRead x = record { placed = placed made.tokens made.lexed; wordy = wordy text made.tokens made.lexed } in
-    let h = behind_version x (reads one_version (terminals x false) 0) made.parsed.known read made.parsed.reading in
+    let h = behind_version x (told (reads one_version (terminals x false) 0)) made.parsed.known read made.parsed.reading in
     subst (TreeTells text) made.parsed.same (record { declared = h.declared; small = h.small })
