@@ -27,7 +27,8 @@ fn counted(operations: u32, products: u32) -> Cost
 
 impl Cost {
     fn plus(self, other: Cost) -> Cost
-        ensures { result ≡ capped_cost (self.operations + other.operations) (self.products + other.products) }
+        ensures { result ≡ capped_cost (self.operations + other.operations)
+            (self.products + other.products) }
     {
         counted(
             self.operations.saturating_add(other.operations),

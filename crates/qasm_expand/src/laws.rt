@@ -10,7 +10,8 @@ ghost use Rattle.qasm_expand.specs.Sound.{IsSound};
 
 /// The tree of a text has numbers in range, and its calls fit what they call.
 pub fn law_sound()
-    ensures { (text : List ℕ) (tokens : List Token) (tree : Tree) → HasTree text tokens tree → IsSound tree }
+    ensures { (text : List ℕ) (tokens : List Token) (tree : Tree) → HasTree text tokens tree
+        → IsSound tree }
 {}
 
 /// The flat operations of a sound tree act on its qubits and its bits. Those on two qubits act on two, and a condition reads a register.

@@ -13,8 +13,6 @@ mod cost;
 mod flat;
 mod laws;
 mod push;
-#[cfg(test)]
-mod tests;
 
 use cost::{costs, passing};
 pub use flat::Flat;

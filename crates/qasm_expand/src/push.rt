@@ -33,7 +33,8 @@ fn push_call(
 ) -> Result<(), Memory>
     requires sound { AreSound gates.now }
     requires call { IsCall gates.now gate (length qubits.now) }
-    ensures { OnOk result (flats.new.items ≡ flats.old.items ++ called (calls_of gates.now) gate qubits.now) }
+    ensures { OnOk result (flats.new.items ≡ flats.old.items
+        ++ called (calls_of gates.now) gate qubits.now) }
 {
     match gate {
         Callee::One { gate } => flats.push(Flat::Gate1 { gate, q: qubits[0] })?,
@@ -94,7 +95,8 @@ fn push_applications(
     requires sound { AreSound gates.now }
     requires call { IsCall gates.now gate (length args.now) }
     requires within { All (IsWithin 16384) args.now }
-    ensures { OnOk result (flats.new.items ≡ flats.old.items ++ flat_map (applied (calls_of gates.now) gate args.now) (indices args.now)) }
+    ensures { OnOk result (flats.new.items ≡ flats.old.items
+        ++ flat_map (applied (calls_of gates.now) gate args.now) (indices args.now)) }
 {
     for i in 0..times(args) {
         put_all_at(qubits, args, i)?;
@@ -106,7 +108,8 @@ fn push_applications(
 fn push_measurements(flats: &mut Vec<Flat>, from: Arg, to: Arg) -> Result<(), Memory>
     requires from { IsWithin 16384 from }
     requires to { IsWithin 16384 to }
-    ensures { OnOk result (flats.new.items ≡ flats.old.items ++ map (measured from to) (indices (from ∷ []))) }
+    ensures { OnOk result (flats.new.items ≡ flats.old.items
+        ++ map (measured from to) (indices (from ∷ []))) }
 {
     for i in 0..times(&[from]) {
         flats.push(Flat::Measure {
@@ -119,7 +122,8 @@ fn push_measurements(flats: &mut Vec<Flat>, from: Arg, to: Arg) -> Result<(), Me
 
 fn push_resets(flats: &mut Vec<Flat>, arg: Arg) -> Result<(), Memory>
     requires { IsWithin 16384 arg }
-    ensures { OnOk result (flats.new.items ≡ flats.old.items ++ map (reset_at arg) (indices (arg ∷ []))) }
+    ensures { OnOk result (flats.new.items ≡ flats.old.items
+        ++ map (reset_at arg) (indices (arg ∷ []))) }
 {
     for i in 0..times(&[arg]) {
         flats.push(Flat::Reset {
@@ -138,7 +142,8 @@ fn push_conditionals(
     arg: Arg,
 ) -> Result<(), Memory>
     requires { IsWithin 16384 arg }
-    ensures { OnOk result (flats.new.items ≡ flats.old.items ++ map (conditional first size value gate arg) (indices (arg ∷ []))) }
+    ensures { OnOk result (flats.new.items ≡ flats.old.items
+        ++ map (conditional first size value gate arg) (indices (arg ∷ []))) }
 {
     for i in 0..times(&[arg]) {
         flats.push(Flat::If {
@@ -152,7 +157,7 @@ fn push_conditionals(
     Ok(())
 }
 
-/// Appends the operations of a statement of a tree. What stands in `qubits` before and behind the call means nothing.
+/// Appends the operations of a statement of a tree. What stands in `qubits` before and after the call means nothing.
 pub fn push_statement(
     alloc: Global,
     flats: &mut Vec<Flat>,
@@ -162,7 +167,8 @@ pub fn push_statement(
 ) -> Result<(), Memory>
     requires tree { IsSound tree.now }
     requires statement { IsSoundStatement tree.now statement.now }
-    ensures { OnOk result (flats.new.items ≡ flats.old.items ++ statement_flats (calls_of tree.now.gates) statement.now) }
+    ensures { OnOk result (flats.new.items ≡ flats.old.items
+        ++ statement_flats (calls_of tree.now.gates) statement.now) }
 {
     match statement {
         Statement::Call { gate, args, .. } => {
