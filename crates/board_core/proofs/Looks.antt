@@ -1,10 +1,10 @@
 -- Looks that show the same product of the same board are equal, and a look's axis has a letter other than I.
-use Rattle.std.proofs.Common.{◌≡◌, ◌≢◌, ℕ, zero, suc, ◌<◌, Bool, true, false, nat_le, IsTrue, List, [], ◌∷◌, length, get_or, slice_get, slice_index_or, Option, Some, None, refl, ap, sym, ◌∙◌, inl, inr, arith, subst}
+use Rattle.std.proofs.Common.{◌≡◌, ◌≢◌, ℕ, zero, suc, ◌<◌, Bool, nat_le, IsTrue, List, [], ◌∷◌, length, get_or, slice_get, slice_index_or, Option, Some, None, refl, ap, sym, ◌∙◌, inl, inr, arith, subst}
 use Rattle.std.proofs.lemmas.Bool.{cases_Bool, leb-true, leb-false, true≢false}
-use Rattle.std.proofs.lemmas.Option.{same_Some, none-some, slice_get-get_or}
+use Rattle.std.proofs.lemmas.Option.{same_Some, slice_get-get_or}
 use Rattle.pauli_product.specs.declared.Letter.{Letter}
 use Rattle.pauli_product.specs.declared.Letter.TheVariants.{I}
-use Rattle.pauli_product.specs.Signed.{Signed, HasLetter, IsNotIdentity}
+use Rattle.pauli_product.specs.Signed.{Signed, IsNotIdentity}
 use Rattle.pauli_product.specs.Pulls.{carry}
 use Rattle.pauli_product.proofs.Laws.{carry_letters}
 use Rattle.source_model.specs.declared.Static.{Static}

@@ -1,28 +1,16 @@
 -- Products on n qubits.
-use Rattle.std.proofs.Common.{◌≡◌, ◌≢◌, ℕ, zero, suc, ◌+◌, ◌%◌, Bool, true, false, if◌then◌else◌, List, [], ◌∷◌, take, slice_get, IsTrue, Some, refl, ap, sym, ◌∙◌, subst, arith}
-use Rattle.std.proofs.lemmas.Bool.{true≢false}
+use Rattle.std.proofs.Common.{◌≡◌, ℕ, zero, suc, List, [], ◌∷◌, slice_get, Some, refl, sym, subst}
 use Rattle.std.proofs.lemmas.Option.{same_Some, none-some}
 use Rattle.std.proofs.lemmas.List.Elements.{All-nil, All-cons, All-head, All-tail}
-use Rattle.pauli_product.specs.declared.Letter.{Letter}
-use Rattle.pauli_product.specs.declared.Letter.TheVariants.{I, X, Y, Z}
-use Rattle.pauli_product.specs.Letters.{letter_product, letters_clash}
-use Rattle.pauli_product.specs.Signed.{Signed, OfLength, commute, clashes, letters_product}
-use Rattle.pauli_product.specs.Pulls.{Angle, Turn, quarter, half, pull, conj}
-use Rattle.pauli_product.proofs.Algebra.{conj_commuting, conj_moved, odd_from_commute}
+use Rattle.pauli_product.specs.Signed.{Signed, OfLength}
 use Rattle.source_model.specs.declared.Kind.{Kind}
 use Rattle.source_model.specs.declared.Kind.TheVariants as kind
 use Rattle.source_model.specs.declared.Static.{Static}
 use Rattle.source_model.specs.declared.Item.{Item}
-use Rattle.source_model.specs.SourceRun.{fresh, axis_in, axis_of, progress_after}
+use Rattle.source_model.specs.SourceRun.{axis_of}
 use Rattle.source_model.specs.Circuits.{AxesOfLength}
 use Rattle.source_model.specs.Statics.{item_of, static_items}
-use Rattle.source_model.specs.Used.{acts, acts_at}
-use Rattle.std.specs.List.{slice_index_or}
-use Rattle.region_plan.specs.Free.{HasLetter}
 use Rattle.board_core.specs.Laws.{ProductsOfLength}
-use Rattle.board_core.specs.History.{History, known}
-use Rattle.board_core.specs.Legal.{Job, AxisOf}
-use Rattle.board_core.proofs.SourceOrder.{axis_in_frame}
 
 first_long : (n : ℕ) (s : Static) (ss : List Static) → ProductsOfLength n (s ∷ ss) → OfLength n s.axis
 first_long n s ss h = All-head (λ (s : Static). OfLength n s.axis) s ss h
