@@ -110,7 +110,7 @@ SourceAxisIsPulled = (steps : List Step) (p : ℕ) (s : Step) → slice_get step
 abbrev pub BitsAgree : Type 0
 BitsAgree = (steps : List Step) (done done' : List (ℕ × Signed)) (p b : ℕ) →
     ((q : ℕ) (s : Step) → q < p → slice_get steps q ≡ Some s → writes s.act b ≡ true →
-      axis_of done q ≡ axis_of done' q) →
+    axis_of done q ≡ axis_of done' q) →
     bit_below steps done p b ≡ bit_below steps done' p b
 
 -- numbers agree where their bits do
