@@ -14,7 +14,8 @@ use Rattle.qasm_expand.specs.Limits.{passing}
 use Rattle.product_list.specs.ListText.{list_circuit}
 use Rattle.product_list.proofs.Laws.{list_or_fault}
 use Rattle.rotation_list.specs.Items.{IsTreeOf, circuit_of}
-use Rattle.rotation_list.specs.Laws.{CircuitOrFault, TreeOrFault}
+use Rattle.rotation_list.specs.Laws.{CircuitOrFault}
+use Rattle.qasm_parse.specs.Laws.{TreeOrFault}
 use Rattle.rotation_list.specs.Texts.{IsFaulty, IsProgramOf, IsRefused, StandsFor, is_list}
 use Rattle.rotation_list.specs.Texts.IsFaulty.{untokened, untreed, unbounded}
 

@@ -1,11 +1,7 @@
 -- Laws of circuit texts: what a text stands for is one, and a printed product list stands for the static circuit.
 use Rattle.std.specs.Prelude.{◌≡◌, ◌⊎◌, ℕ, ◌≤◌, List, length}
 use Rattle.source_model.specs.declared.Circuit.{Circuit}
-use Rattle.qasm_lex.specs.declared.Token.{Token}
 use Rattle.qasm_lex.specs.declared.fault.CircuitFault.{CircuitFault}
-use Rattle.qasm_lex.specs.declared.fault.FaultKind.{FaultKind}
-use Rattle.qasm_parse.specs.declared.tree.Tree.{Tree}
-use Rattle.qasm_parse.specs.Pass.{HasTree, HasFault}
 use Rattle.product_list.specs.Listable.{lowered, static_circuit}
 use Rattle.rotation_list.specs.Texts.{IsRefused, StandsFor}
 
@@ -20,12 +16,6 @@ NotBoth = (text : List ℕ) (c : Circuit) (f : CircuitFault) → StandsFor text 
 -- a text is refused with one fault at most
 abbrev pub OneFault : Type 0
 OneFault = (text : List ℕ) (f g : CircuitFault) → IsRefused text f → IsRefused text g → f ≡ g
-
--- each text with its tokens has a tree or a fault
-abbrev pub TreeOrFault : Type 0
-TreeOrFault = (text : List ℕ) (tokens : List Token) →
-    ((tree : Tree) × HasTree text tokens tree)
-    ⊎ ((line : ℕ) × (kind : FaultKind) × HasFault text tokens line kind)
 
 -- each text stands for a circuit or is refused
 abbrev pub CircuitOrFault : Type 0

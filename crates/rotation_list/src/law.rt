@@ -2,7 +2,7 @@
 //!
 //! The functions do nothing: each carries laws in its contract.
 
-ghost use Rattle.rotation_list.specs.Laws.{CircuitOrFault, NotBoth, OneCircuit, OneFault, PrintedAgain, PrintedStands, TreeOrFault};
+ghost use Rattle.rotation_list.specs.Laws.{CircuitOrFault, NotBoth, OneCircuit, OneFault, PrintedAgain, PrintedStands};
 
 use qasm_expand::{law_placed, law_sound};
 use qasm_parse::{law_one_fault, law_one_tree, law_tree_or_fault};
@@ -20,11 +20,12 @@ pub fn law_one_circuit()
     law_one_fault();
 }
 
-/// Where each text with its tokens has a tree or a fault, each text stands for a circuit or is
-/// refused.
+/// Each text stands for a circuit or is refused.
 pub fn law_answer()
-    ensures { TreeOrFault → CircuitOrFault }
-{}
+    ensures { CircuitOrFault }
+{
+    qasm_parse::law_answer();
+}
 
 /// The product list that is printed of a circuit is read as its static circuit, where it isn't too
 /// long to be read. The static circuit is printed as the same list.
