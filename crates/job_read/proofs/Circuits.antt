@@ -1,9 +1,8 @@
 -- Circuit texts past the limit.
-use Rattle.std.proofs.Common.{◌≡◌, ◌≢◌, ◌⊎◌, ℕ, ◌<◌, ◌≤◌, Bool, true, false, List, length, Result, Ok, Err, refl, ap, sym, ◌∙◌, subst, inl, inr, nat_lt, if◌then◌else◌, take, IfSome, arith}
-use borrow.Author.Tests.{ltb-true, lt-ltb}
+use Rattle.std.proofs.Common.{◌≡◌, ◌≢◌, ◌⊎◌, ℕ, ◌<◌, Bool, true, false, List, length, Err, refl, ap, sym, ◌∙◌, subst, inl, inr, take, IfSome}
+use borrow.Author.Tests.{lt-ltb}
 use Rattle.source_model.specs.declared.Circuit.{Circuit}
-use Rattle.qasm_lex.specs.declared.Token.{Token}
-use Rattle.qasm_lex.specs.Tokens.{tokens_of, tokens_from}
+use Rattle.qasm_lex.specs.Tokens.{tokens_of}
 use Rattle.qasm_lex.specs.declared.fault.FaultKind.{FaultKind}
 use Rattle.qasm_lex.specs.declared.fault.FaultKind.TheVariants as kinds
 use Rattle.qasm_lex.specs.declared.fault.CircuitFault.{CircuitFault}

@@ -1,5 +1,5 @@
 -- What a job keeps follows from its circuit.
-use Rattle.std.proofs.Common.{◌≡◌, ◌≢◌, ℕ, zero, suc, ◌+◌, ◌<◌, ◌≤◌, ◌||◌, ◌&&◌, true, false, List, [], ◌∷◌, ◌++◌, length, map, slice_get, Some, All, IsTrue, inl, inr, refl, ap, sym, ◌∙◌, subst, arith}
+use Rattle.std.proofs.Common.{Bool, ◌≡◌, ◌≢◌, ℕ, zero, suc, ◌<◌, ◌≤◌, ◌||◌, ◌&&◌, true, false, List, [], ◌∷◌, ◌++◌, length, map, slice_get, Some, All, IsTrue, inl, inr, refl, ap, sym, ◌∙◌, subst, arith}
 use Rattle.std.specs.List.{list_any, range_with_len, slice_index_or}
 use Rattle.std.proofs.lemmas.Bool.{cases_lt, or_cases, and_parts, false≢true}
 use Rattle.std.proofs.lemmas.List.{get_or_past, length-map}

@@ -1,18 +1,18 @@
 -- What a circuit asks of a layout, and layouts that are refused for it.
-use Rattle.std.proofs.Common.{◌≡◌, ◌≢◌, ◌⊎◌, ℕ, ◌+◌, ◌<◌, ◌≤◌, Bool, List, map, min, length, Some, Option, IfSome, refl, ap, sym, ◌∙◌, subst, inl, inr, arith}
-use Rattle.std.specs.List.{list_any, range_with_len}
+use Rattle.std.proofs.Common.{◌≡◌, ◌≢◌, ◌⊎◌, ℕ, ◌<◌, ◌≤◌, Bool, List, map, min, IfSome, refl, ap, sym, ◌∙◌, subst, inl, inr, arith}
+use Rattle.std.specs.List.{range_with_len}
 use Rattle.std.proofs.lemmas.List.{same_lists}
 use Rattle.std.proofs.lemmas.List.FromFn.{get_or-map-range_with_len, length-map-range_with_len}
 use Rattle.std.proofs.lemmas.Option.{get_or_from_slice_get}
 use Rattle.patch_base.specs.declared.need.Need.{Need}
 use Rattle.source_model.specs.declared.Static.{Static}
 use Rattle.source_model.specs.Used.{is_used}
-use Rattle.rotation_list.specs.Needs.{IsNeedOf, is_rotation}
+use Rattle.rotation_list.specs.Needs.{IsNeedOf}
 use Rattle.patch_layout.specs.declared.layout.Edge.TheVariants as edge
 use Rattle.patch_layout.specs.declared.fault.LayoutFault.{LayoutFault}
 use Rattle.patch_layout.specs.declared.fault.LayoutFault.TheVariants as fault
 use Rattle.patch_layout.specs.Grid.{Grid, Wanted, Open, OnPatch}
-use Rattle.patch_layout.specs.Row.{row_grid, wanted, RowRefused, LeastUsedFrom}
+use Rattle.patch_layout.specs.Row.{row_grid, wanted, RowRefused}
 use Rattle.patch_layout.specs.LayoutText.{StandsFor, Refused}
 use Rattle.patch_layout.proofs.Rows.{patch_place}
 use Rattle.source_model.specs.declared.Circuit.{Circuit}

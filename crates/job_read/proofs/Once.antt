@@ -1,5 +1,5 @@
 -- A text stands for one circuit at most, or is refused with one fault at most, and not both.
-use Rattle.std.proofs.Common.{◌≡◌, ◌⊎◌, ℕ, Bool, true, false, List, Result, Ok, Err, Some, None, refl, ap, ap₂, sym, ◌∙◌, subst, inl, inr}
+use Rattle.std.proofs.Common.{◌≡◌, ◌⊎◌, ℕ, List, ap, ap₂, sym, ◌∙◌, subst, inl, inr}
 use Rattle.std.proofs.lemmas.Bool.{true≢false}
 use Rattle.source_model.specs.declared.Circuit.{Circuit}
 use Rattle.qasm_lex.specs.declared.Token.{Token}

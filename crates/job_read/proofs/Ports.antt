@@ -1,7 +1,5 @@
 -- The factories of a grid, a cell at a time.
-use Rattle.std.proofs.Common.{◌≡◌, ◌≢◌, ℕ, zero, suc, ◌+◌, ◌<◌, Bool, List, [], ◌∷◌, ◌++◌, length, drop, slice_get, Option, Some, refl, ap, sym, ◌∙◌, subst, arith}
-use Rattle.std.proofs.lemmas.Option.{slice_get-get_or, get_or_from_slice_get}
-use Rattle.std.proofs.Math.Seq.{drop-cons}
+use Rattle.std.proofs.Common.{◌≡◌, ◌≢◌, ℕ, zero, suc, ◌+◌, ◌<◌, List, [], ◌∷◌, length, drop, slice_get, Some, refl, ap, subst, arith}
 use Rattle.patch_layout.specs.declared.layout.Site.{Site}
 use Rattle.patch_layout.specs.declared.layout.Site.TheVariants as site
 use Rattle.patch_layout.specs.declared.layout.Tile.{Tile}

@@ -1,5 +1,5 @@
 -- Outcome texts past the limit, and what an accepted one keeps.
-use Rattle.std.proofs.Common.{◌≡◌, ◌≢◌, ◌⊎◌, ℕ, ap₂, take, IfSome, ◌+◌, ◌<◌, ◌≤◌, List, [], ◌∷◌, ◌++◌, length, inl, inr, ap, sym, ◌∙◌, append_assoc, append-nil, refl, subst, arith}
+use Rattle.std.proofs.Common.{◌≡◌, ◌≢◌, ◌⊎◌, ℕ, ap₂, take, IfSome, ◌<◌, ◌≤◌, List, [], ◌∷◌, ◌++◌, length, inl, inr, ap, sym, ◌∙◌, append_assoc, append-nil, refl, subst, arith}
 use Rattle.std.proofs.lemmas.List.{length-append}
 use Rattle.source_model.specs.declared.Given.{Given}
 use Rattle.magic_pool.specs.declared.Fail.{Fail}

@@ -1,5 +1,5 @@
 -- From the three texts to the job.
-use Rattle.std.proofs.Common.{◌≡◌, ◌≢◌, ◌⊎◌, ℕ, ◌≤◌, List, length, map, slice_get, Option, Some, IsSome, All, inl, inr, ap, sym, ◌∙◌, subst, IfSome, arith}
+use Rattle.std.proofs.Common.{◌≡◌, ◌⊎◌, ℕ, ◌≤◌, List, length, slice_get, Option, IsSome, All, inl, inr, ap, sym, ◌∙◌, subst, IfSome, arith}
 use Rattle.source_model.specs.declared.Circuit.{Circuit}
 use Rattle.source_model.specs.declared.Static.{Static}
 use Rattle.source_model.specs.Circuits.{RightKinds, OutcomesOf, kinds}
@@ -10,13 +10,12 @@ use Rattle.source_model.specs.declared.Kind.{Kind}
 use Rattle.qasm_lex.specs.declared.fault.CircuitFault.{CircuitFault}
 use Rattle.patch_layout.specs.declared.fault.LayoutFault.{LayoutFault}
 use Rattle.patch_layout.specs.Grid.{Grid, Open, Sound}
-use Rattle.patch_layout.specs.Row.{IsUsed}
 use Rattle.patch_layout.specs.LayoutText as layouts
 use Rattle.job_read.specs.declared.Job.{Job}
 use Rattle.job_read.specs.declared.fault.JobFault.{JobFault}
 use Rattle.job_read.specs.declared.fault.JobFault.TheVariants as fault
 use Rattle.job_read.specs.Reading.{Seen, Reading, IsNamed, IsTold}
-use Rattle.job_read.specs.Stages.{CircuitStands, CircuitRefused, LayoutStands, LayoutRefused, wanted_by, wanted_of}
+use Rattle.job_read.specs.Stages.{CircuitStands, CircuitRefused, LayoutStands, LayoutRefused, wanted_by}
 use Rattle.job_read.specs.Kept.{IsCircuit, IsJob, HaveLetters}
 use Rattle.job_read.specs.Jobs.{Refuses, TellsUpTo, IsOutside}
 use Rattle.job_read.proofs.Keeping.{have_letters, axes_long, all_used, has_rotations, as_many}

@@ -1,11 +1,9 @@
-use Rattle.std.proofs.Common.{◌≡◌, ◌≢◌, ℕ, List, min, codes, inl, inr, refl, ap, sym, ◌∙◌, subst, rules}
+use Rattle.std.proofs.Common.{◌≡◌, ◌≢◌, ℕ, List, min, codes, inl, inr, ap, sym, ◌∙◌, subst, rules}
 use Rattle.std.proofs.lemmas.Result.{err_from_is_err_and}
-use Rattle.source_model.specs.declared.Static.{Static}
-use Rattle.source_model.specs.Statics.{statics}
 use Rattle.patch_layout.specs.Grid.{Grid, Wanted, Open}
 use Rattle.patch_layout.specs.Row.{row_grid, wanted, RowRefused}
 use Rattle.patch_layout.specs.LayoutText.{StandsFor, Refused}
-use Rattle.job_read.specs.Reading.{seen, IsRow, IsNamed}
+use Rattle.job_read.specs.Reading.{seen}
 use Rattle.job_read.specs.Stages.{wanted_of, wanted_by}
 use Rattle.job_read.proofs.Cut.{cut_told, told_cut}
 use Rattle.job_read.proofs.Layouts.{wanted_is, open_row, one_row_fault, refusals_alike, grids_alike, outside, told_fault, stops, row_open, text_stands, row_refused, text_refused}

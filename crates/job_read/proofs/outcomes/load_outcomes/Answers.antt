@@ -1,12 +1,11 @@
 use Rattle.std.proofs.Common.{◌≡◌, ℕ, List, ap, sym, ◌∙◌, subst}
 use Rattle.std.proofs.lemmas.Result.{err_from_is_err_and}
-use Rattle.source_model.specs.Circuits.{kinds}
 use Rattle.source_model.specs.Statics.{kinds_of}
 use Rattle.outcome_table.specs.OutcomeText.{Asked, StandsFor, Refuses}
 use Rattle.outcome_table.specs.declared.fault.OutcomeFault.TheVariants as fault
 use Rattle.std.proofs.Common.{◌⊎◌}
 use Rattle.job_read.specs.Reading.{seen}
-use Rattle.job_read.specs.Stages.{asked_by, factories_in}
+use Rattle.job_read.specs.Stages.{asked_by}
 use Rattle.job_read.proofs.Cut.{cut_told, told_cut}
 use Rattle.job_read.proofs.Tables.{asked_is, few_fails, outside, refusals_alike, same_outcomes, stops, tables_alike, told_fault}
 use Rattle.job_read.proofs.outcomes.load_outcomes.Goals as goal

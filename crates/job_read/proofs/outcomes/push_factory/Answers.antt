@@ -1,4 +1,4 @@
-use Rattle.std.proofs.Common.{◌≡◌, ◌∷◌, [], ◌++◌, ◌+◌, drop, ap, sym, ◌∙◌, append_assoc, List, ℕ, Some}
+use Rattle.std.proofs.Common.{◌≡◌, ◌∷◌, [], ◌++◌, ◌+◌, drop, ap, append_assoc, List, ℕ, Some}
 use Rattle.patch_layout.specs.declared.layout.Tile.TheVariants as tile
 use Rattle.patch_layout.specs.Grid.{tile_of}
 use Rattle.std.specs.List.{slice_get}
