@@ -5,7 +5,8 @@ and the chain of libraries that takes longest.
 
 usage: bench/gate.py [NAME..]    NAME: only these crates and those below them
 
-It looks at the running provers twice a second, so a figure is short by up to half a second a check."""
+It looks at all provers that run, twice a second, so a figure is short by up to half a second a check, and no other check may run
+beside it. Where it is interrupted, it prints what was spent so far."""
 import os
 import re
 import subprocess
@@ -66,10 +67,14 @@ def main(names):
         crates, spent, began = crates_of(f"{room}/clone"), {}, time.time()
         with open(f"{room}/log", "w+") as log:
             gate = subprocess.Popen(["rt", "ci", *names, "--anew"], cwd=f"{room}/clone", stdout=log, stderr=subprocess.STDOUT)
-            while gate.poll() is None:
-                for pid, crate, kind, seconds in provers():
-                    spent[pid, crate, kind] = seconds
-                time.sleep(0.5)
+            try:
+                while gate.poll() is None:
+                    for pid, crate, kind, seconds in provers():
+                        spent[pid, crate, kind] = seconds
+                    time.sleep(0.5)
+            except KeyboardInterrupt:
+                gate.terminate()
+                gate.wait()
             log.seek(0)
             said = log.read().rstrip().splitlines()
     sums = {}
