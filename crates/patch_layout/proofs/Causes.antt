@@ -10,6 +10,7 @@ use Rattle.patch_layout.specs.declared.fault.LayoutFault.TheVariants as fault
 use Rattle.patch_layout.specs.Grid.{Grid, Wanted, Open, IsAncilla}
 use Rattle.patch_layout.specs.Openness.{Least, Lacks, HasPatches, CutFrom, IsWhole, FirstShut, SidesOpen, IsShut, HasPort, PortShut, Opens}
 use Rattle.patch_layout.specs.LayoutText.{BadBody, Formed, FirstBad, Sized, Twice, IsShort, StandsFor, Refused}
+use Rattle.patch_layout.specs.Laws.{OfForm}
 use Rattle.patch_layout.proofs.Once.{takes_one, formed_one, formed_not_bad, stands_one, open_read}
 
 -- the place of a refusal in the order in which they are tried
@@ -272,6 +273,34 @@ refused_one text w e f le lf r s = elim (cases_lt (rank e) (rank f)) [
     | inr le' ↦ refused_same text w e f (omega arith) r s
   ]
 ]
+
+form_rank : (f : LayoutFault) → OfForm f → rank f < 9
+form_rank fault.TooLong o = omega arith
+form_rank (fault.Form line) o = omega arith
+form_rank fault.Size o = omega arith
+form_rank (fault.Overlap c) o = omega arith
+form_rank (fault.PatchMissing q) o = absurd o
+form_rank (fault.Split c) o = absurd o
+form_rank (fault.Shut q e) o = absurd o
+form_rank fault.NoPort o = absurd o
+form_rank (fault.ShutPort p) o = absurd o
+form_rank fault.Memory o = absurd o
+
+-- what must be served has no part in it
+any_wanted : (text : List ℕ) (v w : Wanted) (f : LayoutFault) → OfForm f → Refused text v f → Refused text w f
+any_wanted text v w fault.TooLong o r = r
+any_wanted text v w (fault.Form line) o r = r
+any_wanted text v w fault.Size o r = r
+any_wanted text v w (fault.Overlap c) o r = r
+any_wanted text v w (fault.PatchMissing q) o r = absurd o
+any_wanted text v w (fault.Split c) o r = absurd o
+any_wanted text v w (fault.Shut q e) o r = absurd o
+any_wanted text v w fault.NoPort o r = absurd o
+any_wanted text v w (fault.ShutPort p) o r = absurd o
+any_wanted text v w fault.Memory o r = absurd o
+
+pub one_fault : (text : List ℕ) (v w : Wanted) (e f : LayoutFault) → OfForm e → OfForm f → Refused text v e → Refused text w f → e ≡ f
+one_fault text v w e f oe fo r s = refused_one text w e f (form_rank e oe) (form_rank f fo) (any_wanted text v w e oe r) s
 
 -- a text with a cause is refused for it, or where memory is out
 pub read_told : (text : List ℕ) (w : Wanted) (r : Result Grid LayoutFault) → IfOk r (StandsFor text) → IfOk r (λ g. Open g w) → IfErr r (Refused text w) → (f : LayoutFault) → f ≢ fault.Memory → Refused text w f

@@ -22,4 +22,5 @@ pub mod Once
 pub mod Causes
 pub mod Orders
 pub mod Certificates
+pub mod Answering
 pub mod Laws

@@ -15,6 +15,7 @@ use Rattle.patch_layout.specs.declared.fault.LayoutFault.TheVariants as fault
 use Rattle.patch_layout.specs.Grid.{Grid, Wanted, Open}
 use Rattle.patch_layout.specs.Openness.{Opens}
 use Rattle.patch_layout.specs.LayoutText.{words_of, cell_of, site_of, Takes, Body, BadBody, Header, Formed, FirstBad, Sized, Twice, Laid, StandsFor, Refused}
+use Rattle.patch_layout.specs.Laws.{OfForm}
 use Rattle.patch_layout.proofs.Bodies.{words_of_same}
 use Rattle.patch_layout.proofs.Laying.{equal_or}
 use Rattle.patch_layout.proofs.Places.{get_from_Contains, Contains_from_get}
@@ -142,19 +143,32 @@ open_not g w fault.Memory o b = b
 stands_open : (text : List ℕ) (w : Wanted) (g h : Grid) (f : LayoutFault) → StandsFor text g → Open g w → StandsFor text h → Opens h w (Some f) → ⊥
 stands_open text w g h f s o t cause = let P : Grid → Type 0 = λ x. Opens x w (Some f) in open_not g w f o (subst P (sym (stands_one text g h s t)) cause)
 
-pub open_read : (text : List ℕ) (w : Wanted) (g : Grid) (f : LayoutFault) → StandsFor text g → Open g w → Refused text w f → f ≡ fault.Memory
-open_read text w g fault.TooLong (r, c, ls, short, formed, sized, once, laid) o long = absurd (omega arith)
-open_read text w g (fault.Form line) (r, c, ls, short, formed, sized, once, laid) o (short', (n, e, bad)) = absurd (formed_not_bad (lines text) r c ls n formed bad)
-open_read text w g fault.Size (r, c, xs, short, formed, sized, once, laid) o (short', (s, d, ys, formed', not-sized)) =
+-- a text that stands for a grid isn't refused for its form
+pub stands_not : (text : List ℕ) (g : Grid) (w : Wanted) (f : LayoutFault) → StandsFor text g → OfForm f → Refused text w f → ⊥
+stands_not text g w fault.TooLong (r, c, ls, short, formed, sized, once, laid) o long = omega arith
+stands_not text g w (fault.Form line) (r, c, ls, short, formed, sized, once, laid) o (short', (n, e, bad)) = formed_not_bad (lines text) r c ls n formed bad
+stands_not text g w fault.Size (r, c, xs, short, formed, sized, once, laid) o (short', (s, d, ys, formed', not-sized)) =
     let w' = formed_one (lines text) r c s d xs ys formed formed' in
     let P : ℕ → Type 0 = λ x. Sized x c xs in
     let Q : ℕ → Type 0 = λ x. Sized s x xs in
     let R : List Line → Type 0 = λ x. Sized s d x in
-    absurd (not-sized (subst R w'.2 (subst Q w'.1 (subst P w'.0 sized))))
-open_read text w g (fault.Overlap cell) (r, c, xs, short, formed, sized, once, laid) o (short', (s, d, ys, formed', sized', (two, least))) =
+    not-sized (subst R w'.2 (subst Q w'.1 (subst P w'.0 sized)))
+stands_not text g w (fault.Overlap cell) (r, c, xs, short, formed, sized, once, laid) o (short', (s, d, ys, formed', sized', (two, least))) =
     let w' = formed_one (lines text) r c s d xs ys formed formed' in
     let R : List Line → Type 0 = λ x. Twice x cell in
-    absurd (once cell (subst R (sym w'.2) two))
+    once cell (subst R (sym w'.2) two)
+stands_not text g w (fault.PatchMissing q) s o r = o
+stands_not text g w (fault.Split c) s o r = o
+stands_not text g w (fault.Shut q e) s o r = o
+stands_not text g w fault.NoPort s o r = o
+stands_not text g w (fault.ShutPort p) s o r = o
+stands_not text g w fault.Memory s o r = o
+
+pub open_read : (text : List ℕ) (w : Wanted) (g : Grid) (f : LayoutFault) → StandsFor text g → Open g w → Refused text w f → f ≡ fault.Memory
+open_read text w g fault.TooLong s o r = absurd (stands_not text g w fault.TooLong s tt r)
+open_read text w g (fault.Form line) s o r = absurd (stands_not text g w (fault.Form line) s tt r)
+open_read text w g fault.Size s o r = absurd (stands_not text g w fault.Size s tt r)
+open_read text w g (fault.Overlap cell) s o r = absurd (stands_not text g w (fault.Overlap cell) s tt r)
 open_read text w g (fault.PatchMissing q) s o (h, t, cause) = absurd (stands_open text w g h (fault.PatchMissing q) s o t cause)
 open_read text w g (fault.Split c) s o (h, t, cause) = absurd (stands_open text w g h (fault.Split c) s o t cause)
 open_read text w g (fault.Shut q e) s o (h, t, cause) = absurd (stands_open text w g h (fault.Shut q e) s o t cause)

@@ -2,7 +2,7 @@
 //!
 //! The functions do nothing: each carries a law in its contract.
 
-ghost use Rattle.patch_layout.specs.Laws.{FitsHaveCertificates, CertifiedFits, CertifiedAscends, NeighboursAreMutual, SidesAreAncilla, RowPatchesStand};
+ghost use Rattle.patch_layout.specs.Laws.{FitsHaveCertificates, CertifiedFits, CertifiedAscends, NeighboursAreMutual, SidesAreAncilla, RowPatchesStand, GridOrFault, NotBoth, OneGrid, OneFault};
 
 /// Each ascending list of cells that fits has a certificate that the check passes.
 pub fn law_certificate()
@@ -32,4 +32,24 @@ pub fn law_sides()
 /// The row layout has no patches but those of its qubits.
 pub fn law_row_patches()
     ensures { RowPatchesStand }
+{}
+
+/// Each text stands for a grid, open or not, or is refused for its form.
+pub fn law_answer()
+    ensures { GridOrFault }
+{}
+
+/// A text that stands for a grid isn't refused for its form.
+pub fn law_not_both()
+    ensures { NotBoth }
+{}
+
+/// A text stands for one grid at most.
+pub fn law_one_grid()
+    ensures { OneGrid }
+{}
+
+/// A text is refused for its form with one fault at most.
+pub fn law_one_fault()
+    ensures { OneFault }
 {}

@@ -20,8 +20,8 @@ pub use certifier::certify;
 pub use checker::check;
 pub use fault::LayoutFault;
 pub use law::{
-    law_certificate, law_certified_ascends, law_certified_fits, law_neighbours, law_row_patches,
-    law_sides,
+    law_answer, law_certificate, law_certified_ascends, law_certified_fits, law_neighbours,
+    law_not_both, law_one_fault, law_one_grid, law_row_patches, law_sides,
 };
 pub use layout::{Edge, Layout, Side, Site, Tile};
 pub use look::{HeldList, Look};
