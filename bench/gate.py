@@ -5,8 +5,8 @@ and the chain of libraries that takes longest.
 
 usage: bench/gate.py [NAME..]    NAME: only these crates and those below them
 
-It looks at all provers that run, twice a second, so a figure is short by up to half a second a check, and no other check may run
-beside it. Where it is interrupted, it prints what was spent so far."""
+It looks at the provers below its own `rt ci`, twice a second, so a figure is short by up to half a second a check. What else runs
+beside it makes each second count for less. Where it is interrupted, it prints what was spent so far."""
 import os
 import re
 import subprocess
@@ -18,13 +18,21 @@ TICKS = os.sysconf("SC_CLK_TCK")
 KINDS = ("library", "tests", "edits")
 
 
-def provers():
-    """The provers that run now: process, crate, kind and processor seconds so far."""
+def is_below(pid, top):
+    """Whether the process was started by `top`, or by one that `top` started, and so on."""
+    while pid > 1 and pid != top:
+        with open(f"/proc/{pid}/stat") as it:
+            pid = int(it.read().rsplit(")", 1)[1].split()[1])
+    return pid == top
+
+
+def provers(top):
+    """The provers that run now below the process `top`: process, crate, kind and processor seconds so far."""
     for pid in filter(str.isdigit, os.listdir("/proc")):
         try:
             with open(f"/proc/{pid}/cmdline", "rb") as it:
                 words = it.read().decode(errors="replace").split("\0")
-            if not words[0].endswith("/rattle") or "--crate-name" not in words:
+            if not words[0].endswith("/rattle") or "--crate-name" not in words or not is_below(int(pid), top):
                 continue
             kind = "tests" if "--test" in words else "library"
             if os.path.basename(os.readlink(f"/proc/{pid}/cwd")).startswith("rt-edit-"):
@@ -69,7 +77,7 @@ def main(names):
             gate = subprocess.Popen(["rt", "ci", *names, "--anew"], cwd=f"{room}/clone", stdout=log, stderr=subprocess.STDOUT)
             try:
                 while gate.poll() is None:
-                    for pid, crate, kind, seconds in provers():
+                    for pid, crate, kind, seconds in provers(gate.pid):
                         spent[pid, crate, kind] = seconds
                     time.sleep(0.5)
             except KeyboardInterrupt:
