@@ -6,6 +6,7 @@ use Rattle.patch_layout.specs.declared.look.Look.{Look}
 use Rattle.board_core.specs.History.{claim_place}
 use Rattle.board_core.specs.View.{turns_of, LeastWait}
 use Rattle.board_core.specs.Books.{HoldersAre}
+use Rattle.board_core.specs.Laws.{ProductsOfLength}
 use Rattle.board_core.specs.Position.{Position, past}
 use Rattle.board_core.specs.Causes.{IsProduct, is_rotation, ready}
 
@@ -23,3 +24,7 @@ pub record Shows (b : Position) (p : ℕ) (look : Look) : Type 0 where
   pub held : HoldersAre b.job (past b) look.held
   pub factories : length look.ready ≡ 16
   pub ready-are : (f : ℕ) → f < 16 → slice_get look.ready f ≡ Some (length (ready b f))
+
+-- the look was made for this layout and these products
+abbrev pub IsMadeFor : Position → Look → Type 0
+IsMadeFor b look = (length look.held ≡ length b.job.grid.sites) × ProductsOfLength (length look.axis.letters) b.job.products

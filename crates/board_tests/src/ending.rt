@@ -2,7 +2,7 @@
 
 ghost use Rattle.std.specs.Prelude.{IfOk};
 ghost use Rattle.source_model.specs.Circuits.{IsOutcomeOf};
-ghost use Rattle.finish_run.specs.Asked.{AreOutcomesOf};
+ghost use Rattle.source_model.specs.Statics.{AreOutcomesOf};
 ghost use Rattle.finish_run.specs.Next.{never};
 
 use crate::board::{Row, board_for};

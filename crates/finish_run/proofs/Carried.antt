@@ -18,7 +18,7 @@ use Rattle.board_core.specs.Causes.{EntryOf, IsDeliverable, claim_of}
 use Rattle.board_core.proofs.Places.{or_else, delivered-append}
 use Rattle.board_core.proofs.Standings.{place_comes, place_stays}
 use Rattle.board_core.proofs.Holding.{release_claimed}
-use Rattle.finish_run.specs.Asked.{AreOutcomesOf}
+use Rattle.source_model.specs.Statics.{AreOutcomesOf}
 use Rattle.finish_run.specs.Next.{Meeting, IsIdle, IsPending, IsTurnOf, IsUnreleased, NoneIs, never}
 use Rattle.finish_run.specs.Finished.{GoesOn}
 use Rattle.finish_run.specs.Looks.{IsServed, ShowsTurn}

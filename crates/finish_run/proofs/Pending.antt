@@ -16,7 +16,7 @@ use Rattle.board_core.specs.Legal.{Job, Legal}
 use Rattle.board_core.specs.Books.{TakesRegion}
 use Rattle.board_core.specs.Position.{Position, past, with_entry, IsLegal}
 use Rattle.board_core.specs.Causes.{EntryOf, IsDeliverable}
-use Rattle.finish_run.specs.Asked.{AreOutcomesOf}
+use Rattle.source_model.specs.Statics.{AreOutcomesOf}
 use Rattle.finish_run.specs.Next.{Meeting, IsPending, IsUnreleased, NoneBelow, NoneIs}
 use Rattle.finish_run.specs.Finished.{GoesOn}
 use Rattle.finish_run.proofs.Onward.{goes_job, goes_one}

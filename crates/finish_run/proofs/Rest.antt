@@ -9,7 +9,7 @@ use Rattle.board_core.specs.History.{History, done_place, is_done_by}
 use Rattle.board_core.specs.Position.{Position, past, IsLegal}
 use Rattle.board_core.proofs.Going.{some_take}
 use Rattle.board_core.proofs.Tables.{entry_of}
-use Rattle.finish_run.specs.Asked.{AreOutcomesOf}
+use Rattle.source_model.specs.Statics.{AreOutcomesOf}
 use Rattle.finish_run.specs.Next.{Meeting, IsIdle, IsTurnOf}
 use Rattle.finish_run.specs.Finished.{DoneBelow, GoesOn}
 use Rattle.finish_run.proofs.Onward.{goes_past}
@@ -17,7 +17,7 @@ use Rattle.finish_run.proofs.Past.{not_both}
 use Rattle.finish_run.proofs.Pending.{as_many}
 use Rattle.finish_run.proofs.Lengths.{product_long}
 use Rattle.std.proofs.lemmas.List.{length-replicate}
-use Rattle.finish_run.specs.Looks.{IsMadeFor}
+use Rattle.board_core.specs.Shows.{IsMadeFor}
 use Rattle.board_core.specs.Laws.{ProductsOfLength}
 use Rattle.patch_layout.specs.Look.{identity}
 use Rattle.pauli_product.specs.Signed.{Signed}

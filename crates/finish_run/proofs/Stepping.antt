@@ -20,7 +20,8 @@ use Rattle.board_core.proofs.Standings.{place_stays}
 use Rattle.finish_run.specs.Next.{Meeting, IsIdle, IsTurnOf, IsRotation, IsFactory, NoStates, WantsState}
 use Rattle.finish_run.specs.Finished.{GoesOn, by_zero}
 use Rattle.board_core.specs.Laws.{ProductsOfLength}
-use Rattle.finish_run.specs.Looks.{IsMadeFor, ShowsTurn}
+use Rattle.board_core.specs.Shows.{IsMadeFor}
+use Rattle.finish_run.specs.Looks.{ShowsTurn}
 use Rattle.finish_run.proofs.Past.{past_push, pending_push, unreleased_push}
 use Rattle.finish_run.proofs.Stocked.{few, none_ready}
 

@@ -5,9 +5,8 @@ use Rattle.board_core.specs.History.{claim_place, done_place}
 use Rattle.board_core.specs.Laws.{ProductsOfLength}
 use Rattle.board_core.specs.View.{LeastWait}
 use Rattle.board_core.specs.Position.{Position, past}
-use Rattle.board_core.specs.Shows.{Shows}
+use Rattle.board_core.specs.Shows.{IsMadeFor, Shows}
 use Rattle.finish_run.specs.Next.{IsTurnOf}
-use Rattle.finish_run.specs.Looks.{IsMadeFor}
 use Rattle.finish_run.proofs.Past.{some_or_none}
 
 pub turn_undone : (b : Position) (p : ℕ) → IsTurnOf b p → done_place (past b) p ≡ None

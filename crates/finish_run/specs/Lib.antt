@@ -1,4 +1,3 @@
-pub mod Asked
 pub mod Next
 pub mod Looks
 pub mod Finished

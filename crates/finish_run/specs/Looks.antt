@@ -1,5 +1,5 @@
 -- Looks at a product whose turn it is.
-use Rattle.std.specs.Prelude.{◌≡◌, ℕ, length}
+use Rattle.std.specs.Prelude.{ℕ}
 use Rattle.pauli_product.specs.Signed.{IsNotIdentity}
 use Rattle.source_model.specs.declared.Static.{Static}
 use Rattle.patch_layout.specs.declared.look.Look.{Look}
@@ -7,14 +7,9 @@ use Rattle.region_plan.specs.Free.{LacksState}
 use Rattle.board_core.specs.Books.{TakesRegion}
 use Rattle.board_core.specs.Causes.{IsProduct}
 use Rattle.board_core.specs.Legal.{AxisOf}
-use Rattle.board_core.specs.Laws.{ProductsOfLength}
 use Rattle.board_core.specs.Position.{Position, past}
 use Rattle.board_core.specs.Shows.{Shows}
 use Rattle.finish_run.specs.Next.{IsTurnOf}
-
--- the look was made for this layout and these products
-abbrev pub IsMadeFor : Position → Look → Type 0
-IsMadeFor b look = (length look.held ≡ length b.job.grid.sites) × ProductsOfLength (length look.axis.letters) b.job.products
 
 -- the product is a rotation or a measurement
 abbrev pub IsServed : Position → ℕ → Type 0

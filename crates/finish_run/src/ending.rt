@@ -4,7 +4,7 @@ ghost use Rattle.std.specs.Prelude.{◌≡◌, ◌≤◌, IfOk, IfErr, OnOk, len
 ghost use Rattle.region_plan.specs.Answer.{LeastJoined};
 ghost use Rattle.board_core.specs.Legal.{Complete};
 ghost use Rattle.board_core.specs.Position.{past, IsLegal};
-ghost use Rattle.finish_run.specs.Asked.{AreOutcomesOf};
+ghost use Rattle.source_model.specs.Statics.{AreOutcomesOf};
 ghost use Rattle.finish_run.specs.Next.{IsIdle};
 ghost use Rattle.finish_run.specs.Finished.{DoneBelow, GoesOn, own_or_given};
 

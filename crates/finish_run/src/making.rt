@@ -6,7 +6,8 @@ ghost use Rattle.patch_layout.specs.Openness.{Least};
 ghost use Rattle.region_plan.specs.Free.{LacksState};
 ghost use Rattle.board_core.specs.Position.{IsLegal};
 ghost use Rattle.finish_run.specs.Next.{IsFactory, IsTurnOf, WantsState, never};
-ghost use Rattle.finish_run.specs.Looks.{IsMadeFor, IsStocked, ShowsTurn};
+ghost use Rattle.board_core.specs.Shows.{IsMadeFor};
+ghost use Rattle.finish_run.specs.Looks.{IsStocked, ShowsTurn};
 ghost use Rattle.finish_run.specs.Finished.{GoesOn};
 
 use crate::calls::step;

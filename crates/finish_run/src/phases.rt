@@ -3,7 +3,7 @@
 ghost use Rattle.std.specs.Prelude.{◌≡◌, ℕ, ◌+◌, ◌<◌, OnOk, List, length};
 ghost use Rattle.source_model.specs.declared.Given.{Given as Givens};
 ghost use Rattle.board_core.specs.Position.{past, IsLegal};
-ghost use Rattle.finish_run.specs.Asked.{AreOutcomesOf};
+ghost use Rattle.source_model.specs.Statics.{AreOutcomesOf};
 ghost use Rattle.finish_run.specs.Next.{IsIdle, IsPending, IsUnreleased, NoneBelow, NoneIs, never};
 ghost use Rattle.finish_run.specs.Finished.{GoesOn};
 

@@ -6,9 +6,10 @@ ghost use Rattle.source_model.specs.declared.Given.TheVariants as givens;
 ghost use Rattle.board_core.specs.History.{done_place};
 ghost use Rattle.board_core.specs.Position.{past, IsLegal};
 ghost use Rattle.board_core.specs.Causes.{IsClaimable};
-ghost use Rattle.finish_run.specs.Asked.{AreOutcomesOf};
+ghost use Rattle.source_model.specs.Statics.{AreOutcomesOf};
 ghost use Rattle.finish_run.specs.Next.{IsIdle, IsTurnOf, never};
-ghost use Rattle.finish_run.specs.Looks.{IsMadeFor, IsServed, IsStocked, ShowsTurn};
+ghost use Rattle.board_core.specs.Shows.{IsMadeFor};
+ghost use Rattle.finish_run.specs.Looks.{IsServed, IsStocked, ShowsTurn};
 ghost use Rattle.finish_run.specs.Finished.{GoesOn, DoneBelow};
 
 use crate::calls::{claim, deliver, is_undone, release};

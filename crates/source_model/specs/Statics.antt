@@ -6,6 +6,8 @@ use Rattle.source_model.specs.declared.Item.TheVariants as item
 use Rattle.source_model.specs.declared.Kind.{Kind}
 use Rattle.source_model.specs.declared.Kind.TheVariants as kind
 use Rattle.source_model.specs.declared.Static.{Static}
+use Rattle.source_model.specs.declared.Given.{Given}
+use Rattle.source_model.specs.Circuits.{OutcomesOf}
 use Rattle.pauli_product.specs.Commuting.{BitUses, is_among}
 use Rattle.pauli_product.specs.Commuting as uses
 use Rattle.pauli_product.specs.Pulls.{Turn, turn, quarter, half, pull}
@@ -34,6 +36,10 @@ static_items products = map item_of products
 -- their kinds
 abbrev pub kinds_of : List Static → List Kind
 kinds_of products = map (λ s. s.kind) products
+
+-- one outcome for each product, of its kind
+abbrev pub AreOutcomesOf : List Given → List Static → Type 0
+AreOutcomesOf given products = OutcomesOf (kinds_of products) given
 
 -- the bits that a product of a kind reads and writes
 abbrev pub uses_of : Kind → BitUses

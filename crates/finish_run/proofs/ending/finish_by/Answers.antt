@@ -3,7 +3,7 @@ use Rattle.std.proofs.Common.{List, sym, subst}
 use Rattle.source_model.specs.declared.Given.{Given}
 use Rattle.board_core.specs.Legal.{Complete}
 use Rattle.board_core.specs.Position.{past}
-use Rattle.finish_run.specs.Asked.{AreOutcomesOf}
+use Rattle.source_model.specs.Statics.{AreOutcomesOf}
 use Rattle.finish_run.specs.Finished.{own_or_given}
 use Rattle.finish_run.proofs.Completing.{complete}
 use Rattle.finish_run.proofs.ending.finish_by.Goals as goal

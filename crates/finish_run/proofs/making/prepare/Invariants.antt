@@ -3,7 +3,7 @@ use Rattle.std.proofs.Common.{List, ◌-◌, ◌^◌, length}
 use Rattle.source_model.specs.declared.Given.{Given}
 use Rattle.board_core.specs.Position.{IsLegal}
 use Rattle.finish_run.specs.Next.{IsTurnOf, never}
-use Rattle.finish_run.specs.Looks.{IsMadeFor}
+use Rattle.board_core.specs.Shows.{IsMadeFor}
 use Rattle.finish_run.specs.Finished.{GoesOn}
 use Rattle.finish_run.proofs.making.prepare.Given as goal
 
