@@ -1,0 +1,5 @@
+pub mod Lists
+pub mod Keeps
+pub mod Resting
+pub mod Ends
+pub mod Moments
