@@ -4,3 +4,4 @@ pub mod Rising
 pub mod Rows
 pub mod Placing
 pub mod Tracing
+pub mod Sets

@@ -1,40 +1,17 @@
 -- A product's place over the products before it.
-use Rattle.std.proofs.Common.{◌≡◌, ℕ, ◌+◌, ◌-◌, ◌<◌, ◌≤◌, Bool, true, false, not, List, [], ◌∷◌, ◌++◌, length, get_or, replicate, Option, Some, None, inl, inr, sym, ap, ◌∙◌, subst, arith}
-use Rattle.std.specs.Prelude.{is_some, All}
-use Rattle.std.proofs.lemmas.Bool.{cases_lt, not-true, not-false, true_from_ne_false, both_ways}
-use Rattle.std.proofs.lemmas.List.{get_or_append_left, get_or_push, length_push, length-replicate, get_or-replicate}
-use Rattle.std.proofs.lemmas.Option.{slice_get-get_or}
+use Rattle.std.proofs.Common.{◌≡◌, ℕ, ◌+◌, ◌-◌, ◌<◌, ◌≤◌, true, false, not, List, [], ◌∷◌, ◌++◌, length, get_or, inl, inr, sym, ap, ◌∙◌, subst, arith}
+use Rattle.std.proofs.lemmas.Bool.{cases_lt, not-true, not-false, both_ways}
+use Rattle.std.proofs.lemmas.List.{get_or_append_left, get_or_push, length_push}
 use Rattle.pauli_product.specs.Signed.{Signed}
 use Rattle.commute_order.specs.declared.Uses.{Uses}
-use Rattle.commute_order.specs.Commuting.{commuting_at, WaitsOn, LeastWait}
+use Rattle.commute_order.specs.Commuting.{commuting_at}
 use Rattle.layer_pass.specs.Layering.{IsLeast, IsBelow}
 use Rattle.layer_pass.specs.Drafts.{IsPlace, IsFilled, IsDraft}
-use Rattle.layer_pass.proofs.Finds.{IsFirstAt, find-none, none_passes, found_at}
+use Rattle.layer_pass.proofs.Finds.{IsFirstAt, none_passes, found_at}
 use Rattle.layer_pass.proofs.Rising.{lower_first}
 use Rattle.layer_pass.proofs.Rows.{place_in, layer_before, layer_last}
 
 module _ (ps : List Signed) (us : List Uses) where
-  -- ---- a product that waits on none
-  no_wait : (done : List Bool) (p : ℕ) (r : Option ℕ) → is_some r ≡ false → LeastWait ps us done p r → (j : ℕ) → WaitsOn ps us done p j → ⊥
-  no_wait done p None e w = w
-  no_wait done p (Some k) e w = absurd (cc)
-
-  commutes_with : (n p j : ℕ) → p < n → ((j : ℕ) → WaitsOn ps us (replicate n false) p j → ⊥) → j < p → commuting_at ps us j p ≡ true
-  commutes_with n p j h none l =
-      true_from_ne_false (commuting_at ps us j p) (λ clash. none j (record {
-        earlier = l;
-        clash = clash;
-        undone = slice_get-get_or (replicate n false) j false (omega (arith, length-replicate n false)) ∙ ap (λ (b : Bool). Some b) (get_or-replicate n j false false (omega arith));
-      }))
-
-  pub lowest_place : (rows : List (List ℕ)) (n p : ℕ) (r : Option ℕ) → p < n → All (All (λ j. j < p)) rows → is_some r ≡ false → LeastWait ps us (replicate n false) p r → IsPlace ps us rows p 0 0
-  lowest_place rows n p r h earlier e w = record {
-    above = λ k a b.
-        find-none (λ j. not (commuting_at ps us j p)) (get_or rows k [])
-        (λ i l. ap not (commutes_with n p (get_or (get_or rows k []) i 0) h (no_wait (replicate n false) p r e w) (earlier k [] b i 0 l)));
-    blocks = λ l. absurd (omega arith);
-  }
-
   -- ---- one more product
   module _ (layer before : List ℕ) (rows : List (List ℕ)) (below blocker : ℕ) (draft : IsDraft ps us layer before) (filled : IsFilled layer rows) (low : below ≤ length rows) (size : length before ≡ length layer) (place : IsPlace ps us rows (length layer) below blocker) where
     abbrev p : ℕ

@@ -40,3 +40,12 @@ rising-push row p up all k h =
           let less = all k 0 (omega arith) in
           omega arith
     ]
+
+-- of two places the first has the lower number
+pub rises : (row : List ℕ) → IsStrictlyIncreasing row → (i j : ℕ) → i < j → j < length row → get_or row i 0 < get_or row j 0
+rises row up i j h l =
+    let step = up i (omega arith) in
+    let e : i + 1 + (j - (i + 1)) ≡ j = omega arith in
+    let le = rising_le row up (i + 1) (j - (i + 1)) (omega arith) in
+    let le' : get_or row (i + 1) 0 ≤ get_or row j 0 = rw e at le in
+    omega arith

@@ -133,6 +133,18 @@ rows_more rows new below row first h behind above = elim (cases_lt below (length
       omega (arith, ap length (above at), length_push rows first)
 ]
 
+-- and keeps the others
+pub rows_grow : (rows new : List (List ℕ)) (below : ℕ) (row first : List ℕ) → below ≤ length rows → (below < length rows → new ≡ set rows below row) → (below ≡ length rows → new ≡ rows ++ first ∷ []) → (length rows ≤ length new) × (below < length new)
+rows_grow rows new below row first h behind above = elim (cases_lt below (length rows)) [
+  | inl old ↦
+      let same : length new ≡ length rows = ap length (behind old) ∙ length-set rows below row in
+      (omega arith, omega arith)
+  | inr top ↦
+      let at : below ≡ length rows = omega arith in
+      let more : length new ≡ length rows + 1 = ap length (above at) ∙ length_push rows first in
+      (omega arith, omega arith)
+]
+
 -- all products of the rows are earlier than the next
 pub earlier_rows : (layer : List ℕ) (rows : List (List ℕ)) → IsFilled layer rows → All (All (λ j. j < length layer)) rows
 earlier_rows layer rows filled =

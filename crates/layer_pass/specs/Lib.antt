@@ -1,2 +1,3 @@
 pub mod Layering
 pub mod Drafts
+pub mod Lows

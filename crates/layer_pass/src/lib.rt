@@ -37,8 +37,9 @@ pub struct Layers {
 /// stand in different layers of every layering, so that none has fewer layers than the chain has
 /// products.
 ///
-/// Reads at most one bit of the order for each pair of products: each product is compared with those
-/// of the layers so far, from the top down, until one doesn't commute with it.
+/// A layer with many products has a set of the products below it. So a product asks the order a few
+/// times for all earlier ones, 64 at a step, and is compared one by one only with the products of
+/// short layers.
 pub fn least_layers(alloc: Global, order: &Order, n: u32) -> Result<Layers, Memory>
     requires { n ≡ length order.now }
     ensures layering { IfOk result (λ l. (ps : List Signed) (us : List Uses) → IsOrder ps us order.now → IsLayering ps us l.layer l.count) }

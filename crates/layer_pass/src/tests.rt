@@ -73,3 +73,27 @@ fn cuts_into_layers(rt: HostRuntime) -> Result<(), Fail> {
     }
     Ok(())
 }
+
+// Three layers of twenty products, one product beside the first of them, and one above the last.
+fn long_layers() -> ([[Letter; 3]; 62], [u32; 62]) {
+    let mut axes = [[X, I, I]; 62];
+    let mut layer = [1; 62];
+    for p in 20..40usize {
+        axes[p] = [Z, I, I];
+        layer[p] = 2;
+        layer[p + 20] = 3;
+    }
+    axes[60] = [I, X, I];
+    axes[61] = [Z, I, I];
+    layer[61] = 4;
+    (axes, layer)
+}
+
+#[test]
+fn cuts_into_long_layers(rt: HostRuntime) -> Result<(), Fail> {
+    let (axes, layer) = long_layers();
+    let layers = cut(rt.alloc(), &axes)?;
+    assert_eq!(rt; layers.layer.as_slice(), layer.as_slice());
+    assert_eq!(rt; layers.chain.as_slice(), [0, 20, 40, 61].as_slice());
+    Ok(())
+}
