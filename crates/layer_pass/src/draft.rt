@@ -61,7 +61,8 @@ fn first_clash(order: &Order, row: &[u32], p: u32) -> Option<u32>
     requires p { p < length order.now }
     requires row { All (λ j. j < p) row.now }
     ensures earlier { IfSome result (λ j. j < p) }
-    ensures first { (ps : List Signed) (us : List Uses) → IsOrder ps us order.now → result ≡ first_clash_of ps us p row.now }
+    ensures first { (ps : List Signed) (us : List Uses) → IsOrder ps us order.now →
+        result ≡ first_clash_of ps us p row.now }
 {
     for j in row {
         if !order.commute(*j, p) {
@@ -76,7 +77,8 @@ fn first_above(order: &Order, low: &Low, p: u32) -> Option<u32>
     requires p { p < length order.now }
     requires size { length low.now.set ≡ length order.now }
     ensures earlier { IfSome result (λ j. j < p) }
-    ensures first { (ps : List Signed) (us : List Uses) → IsOrder ps us order.now → LeastWait ps us low.now.set p result }
+    ensures first { (ps : List Signed) (us : List Uses) → IsOrder ps us order.now →
+        LeastWait ps us low.now.set p result }
 {
     let first = order.waits_on(p, &low.set)?;
     if first < p { Some(first) } else { None }
@@ -90,8 +92,13 @@ fn place_between(order: &Order, rows: &[NumberList], place: Place, end: u32, p: 
     ensures low { (place.below ≤ result.below) × (result.below ≤ max place.below end) }
     ensures earlier { place.blocker ≤ p → result.blocker ≤ p }
     ensures kept { result.below ≡ place.below → result.blocker ≡ place.blocker }
-    ensures silent { (ps : List Signed) (us : List Uses) → IsOrder ps us order.now → (k : ℕ) → result.below ≤ k → k < end → first_clash_of ps us p (slice_index_or rows.now k []) ≡ None }
-    ensures found { (ps : List Signed) (us : List Uses) → IsOrder ps us order.now → place.below < result.below → first_clash_of ps us p (slice_index_or rows.now (result.below - 1) []) ≡ Some result.blocker }
+    ensures silent { (ps : List Signed) (us : List Uses) → IsOrder ps us order.now →
+        (k : ℕ) → result.below ≤ k → k < end →
+        first_clash_of ps us p (slice_index_or rows.now k []) ≡ None }
+    ensures found { (ps : List Signed) (us : List Uses) → IsOrder ps us order.now →
+        place.below < result.below →
+        first_clash_of ps us p (slice_index_or rows.now (result.below - 1) []) ≡
+        Some result.blocker }
 {
     let mut k = end;
     while place.below < k {
@@ -115,10 +122,15 @@ fn narrow(order: &Order, lows: &[Low], reach: Reach, p: u32) -> Reach
     ensures fewer { (result.from ≤ result.to) × (result.to - result.from < reach.to - reach.from) }
     ensures to { result.to ≤ length lows.now }
     ensures earlier { reach.place.blocker ≤ p → result.place.blocker ≤ p }
-    ensures below { (count : ℕ) → All (λ low. low.row < count) lows.now → reach.place.below ≤ count → result.place.below ≤ count }
-    ensures end { (count : ℕ) → All (λ low. low.row < count) lows.now → reach.end ≤ count → result.end ≤ count }
-    ensures reach { (ps : List Signed) (us : List Uses) (layer : List ℕ) (rows : List (List ℕ)) → IsOrder ps us order.now → length layer ≡ p → IsFilled layer rows → All (IsLow layer (length order.now)) lows.now →
-        IsReach ps us layer rows p reach.place.below reach.place.blocker reach.end → IsReach ps us layer rows p result.place.below result.place.blocker result.end }
+    ensures below { (count : ℕ) → All (λ low. low.row < count) lows.now →
+        reach.place.below ≤ count → result.place.below ≤ count }
+    ensures end { (count : ℕ) → All (λ low. low.row < count) lows.now →
+        reach.end ≤ count → result.end ≤ count }
+    ensures reach { (ps : List Signed) (us : List Uses) (layer : List ℕ) (rows : List (List ℕ)) →
+        IsOrder ps us order.now → length layer ≡ p → IsFilled layer rows →
+        All (IsLow layer (length order.now)) lows.now →
+        IsReach ps us layer rows p reach.place.below reach.place.blocker reach.end →
+        IsReach ps us layer rows p result.place.below result.place.blocker result.end }
 {
     let middle = reach.from + (reach.to - reach.from) / 2;
     let low = &lows[middle];
@@ -162,7 +174,8 @@ fn place_of(order: &Order, layer: &[u32], rows: &[NumberList], lows: &[Low], p: 
     requires lows { All (IsLow layer.now (length order.now)) lows.now }
     ensures low { result.below ≤ length rows.now }
     ensures earlier { result.blocker ≤ p }
-    ensures place { (ps : List Signed) (us : List Uses) → IsOrder ps us order.now → IsPlace ps us rows.now p result.below result.blocker }
+    ensures place { (ps : List Signed) (us : List Uses) → IsOrder ps us order.now →
+        IsPlace ps us rows.now p result.below result.blocker }
 {
     let top = top_row(lows);
     let none = Place {
@@ -194,7 +207,10 @@ fn search(
     requires top { top ≤ length rows.now }
     ensures low { result.below ≤ length rows.now }
     ensures earlier { result.blocker ≤ p }
-    ensures place { (ps : List Signed) (us : List Uses) → IsOrder ps us order.now → ((k : ℕ) → top ≤ k → k < length rows.now → first_clash_of ps us p (slice_index_or rows.now k []) ≡ None) → IsPlace ps us rows.now p result.below result.blocker }
+    ensures place { (ps : List Signed) (us : List Uses) → IsOrder ps us order.now →
+        ((k : ℕ) → top ≤ k → k < length rows.now →
+        first_clash_of ps us p (slice_index_or rows.now k []) ≡ None) →
+        IsPlace ps us rows.now p result.below result.blocker }
 {
     let mut reach = Reach {
         place: Place {
@@ -214,8 +230,10 @@ fn search(
 // Puts product p after the others of a row, or into a new row above all.
 fn put(alloc: Global, rows: &mut Vec<NumberList>, k: u32, p: u32) -> Result<(), Memory>
     requires { k ≤ length rows.old.items }
-    ensures old { OnOk result (k < length rows.old.items → rows.new.items ≡ slice_set rows.old.items k (slice_index_or rows.old.items k [] ++ p ∷ [])) }
-    ensures new { OnOk result (k ≡ length rows.old.items → rows.new.items ≡ rows.old.items ++ (p ∷ []) ∷ []) }
+    ensures old { OnOk result (k < length rows.old.items →
+        rows.new.items ≡ slice_set rows.old.items k (slice_index_or rows.old.items k [] ++ p ∷ [])) }
+    ensures new { OnOk result (k ≡ length rows.old.items →
+        rows.new.items ≡ rows.old.items ++ (p ∷ []) ∷ []) }
 {
     if (k as usize) < rows.len() {
         let row = &mut rows[k as usize];
@@ -241,7 +259,8 @@ fn mark_low(low: &mut Low, below: u32, p: u32)
 fn mark_lows(lows: &mut [Low], below: u32, p: u32)
     requires { All (λ low. p < length low.set) lows.old }
     ensures size { length lows.new ≡ length lows.old }
-    ensures each { (k : ℕ) (d : Low) → k < length lows.old → slice_index_or lows.new k d ≡ marked below p (slice_index_or lows.old k d) }
+    ensures each { (k : ℕ) (d : Low) → k < length lows.old →
+        slice_index_or lows.new k d ≡ marked below p (slice_index_or lows.old k d) }
 {
     for low in lows.iter_mut() {
         mark_low(low, below, p);
@@ -273,8 +292,10 @@ fn add_low(
     n: u32,
 ) -> Result<(), Memory>
     requires { length layer.now ≤ n }
-    ensures within { OnOk result ((count : ℕ) → k < count → All (λ low. low.row < count) lows.old.items → All (λ low. low.row < count) lows.new.items) }
-    ensures lows { OnOk result (All (IsLow layer.now n) lows.old.items → All (IsLow layer.now n) lows.new.items) }
+    ensures within { OnOk result ((count : ℕ) → k < count →
+        All (λ low. low.row < count) lows.old.items → All (λ low. low.row < count) lows.new.items) }
+    ensures lows { OnOk result (All (IsLow layer.now n) lows.old.items →
+        All (IsLow layer.now n) lows.new.items) }
 {
     if row.as_slice().len() != MANY {
         return Ok(());
@@ -288,10 +309,12 @@ fn add_low(
 // Places the products of an order one after the other.
 pub fn place_all(alloc: Global, order: &Order, n: u32) -> Result<Draft, Memory>
     requires { n ≡ length order.now }
-    ensures sizes { IfOk result (λ d. (length d.layer.items ≡ n) × (length d.before.items ≡ n) × (length d.rows.items ≤ n)) }
+    ensures sizes { IfOk result (λ d. (length d.layer.items ≡ n) × (length d.before.items ≡ n) ×
+        (length d.rows.items ≤ n)) }
     ensures before { IfOk result (λ d. All (λ j. j < n) d.before.items) }
     ensures filled { IfOk result (λ d. IsFilled d.layer.items d.rows.items) }
-    ensures draft { IfOk result (λ d. (ps : List Signed) (us : List Uses) → IsOrder ps us order.now → IsDraft ps us d.layer.items d.before.items) }
+    ensures draft { IfOk result (λ d. (ps : List Signed) (us : List Uses) →
+        IsOrder ps us order.now → IsDraft ps us d.layer.items d.before.items) }
 {
     let mut layer = Vec::with_capacity(alloc, n as usize)?;
     let mut before = Vec::with_capacity(alloc, n as usize)?;
@@ -319,7 +342,8 @@ fn walk_back(chain: &mut [u32], before: &[u32], last: u32)
     requires last { last < length before.now }
     requires before { All (λ j. j < length before.now) before.now }
     ensures last { (i : ℕ) → i + 1 ≡ length chain.new → slice_index chain.new i ≡ last }
-    ensures before { (i : ℕ) → i + 1 < length chain.new → slice_index chain.new i ≡ slice_index before.now (slice_index chain.new (i + 1)) }
+    ensures before { (i : ℕ) → i + 1 < length chain.new →
+        slice_index chain.new i ≡ slice_index before.now (slice_index chain.new (i + 1)) }
 {
     let mut p = last;
     for k in (0..chain.len()).rev() {

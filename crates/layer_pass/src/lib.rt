@@ -42,12 +42,17 @@ pub struct Layers {
 /// short layers.
 pub fn least_layers(alloc: Global, order: &Order, n: u32) -> Result<Layers, Memory>
     requires { n ≡ length order.now }
-    ensures layering { IfOk result (λ l. (ps : List Signed) (us : List Uses) → IsOrder ps us order.now → IsLayering ps us l.layer l.count) }
-    ensures lowest { IfOk result (λ l. (ps : List Signed) (us : List Uses) → IsOrder ps us order.now → IsLowest ps us l.layer) }
-    ensures fewest { IfOk result (λ l. (ps : List Signed) (us : List Uses) → IsOrder ps us order.now → IsFewest ps us l.count) }
-    ensures chain { IfOk result (λ l. (ps : List Signed) (us : List Uses) → IsOrder ps us order.now → IsChain ps us l.chain) }
+    ensures layering { IfOk result (λ l. (ps : List Signed) (us : List Uses) →
+        IsOrder ps us order.now → IsLayering ps us l.layer l.count) }
+    ensures lowest { IfOk result (λ l. (ps : List Signed) (us : List Uses) →
+        IsOrder ps us order.now → IsLowest ps us l.layer) }
+    ensures fewest { IfOk result (λ l. (ps : List Signed) (us : List Uses) →
+        IsOrder ps us order.now → IsFewest ps us l.count) }
+    ensures chain { IfOk result (λ l. (ps : List Signed) (us : List Uses) →
+        IsOrder ps us order.now → IsChain ps us l.chain) }
     ensures as_long { IfOk result (λ l. length l.chain ≡ l.count) }
-    ensures traced { IfOk result (λ l. (ps : List Signed) (us : List Uses) → IsOrder ps us order.now → IsTraced ps us l.layer l.chain) }
+    ensures traced { IfOk result (λ l. (ps : List Signed) (us : List Uses) →
+        IsOrder ps us order.now → IsTraced ps us l.layer l.chain) }
 {
     let draft = place_all(alloc, order, n)?;
     let chain = trace_chain(alloc, &draft.rows, &draft.before)?;
