@@ -113,12 +113,12 @@ fn place_between(order: &Order, rows: &[NumberList], place: Place, end: u32, p: 
     place
 }
 
-// Tries the set in the middle of those that aren't tried yet.
-fn narrow(order: &Order, lows: &[Low], reach: Reach, p: u32) -> Reach
+// Tries one of the sets that aren't tried yet.
+fn narrow(order: &Order, lows: &[Low], reach: Reach, at: usize, p: u32) -> Reach
     requires p { p < length order.now }
     requires sizes { All (λ low. length low.set ≡ length order.now) lows.now }
     requires few { All (λ low. low.row + 1 < 2 ^ 32) lows.now }
-    requires some { (reach.from < reach.to) × (reach.to ≤ length lows.now) }
+    requires some { (reach.from ≤ at) × (at < reach.to) × (reach.to ≤ length lows.now) }
     ensures fewer { (result.from ≤ result.to) × (result.to - result.from < reach.to - reach.from) }
     ensures to { result.to ≤ length lows.now }
     ensures earlier { reach.place.blocker ≤ p → result.place.blocker ≤ p }
@@ -132,8 +132,7 @@ fn narrow(order: &Order, lows: &[Low], reach: Reach, p: u32) -> Reach
         IsReach ps us layer rows p reach.place.below reach.place.blocker reach.end →
         IsReach ps us layer rows p result.place.below result.place.blocker result.end }
 {
-    let middle = reach.from + (reach.to - reach.from) / 2;
-    let low = &lows[middle];
+    let low = &lows[at];
     match first_above(order, low, p) {
         Some(blocker) => Reach {
             place: Place {
@@ -141,14 +140,14 @@ fn narrow(order: &Order, lows: &[Low], reach: Reach, p: u32) -> Reach
                 blocker,
             },
             end: reach.end,
-            from: middle + 1,
+            from: at + 1,
             to: reach.to,
         },
         None => Reach {
             place: reach.place,
             end: low.row,
             from: reach.from,
-            to: middle,
+            to: at,
         },
     }
 }
@@ -189,7 +188,8 @@ fn place_of(order: &Order, layer: &[u32], rows: &[NumberList], lows: &[Low], p: 
     search(order, layer, rows, lows, top, p)
 }
 
-// The same where no row from `top` on holds the product.
+// The same where no row from `top` on holds the product. Most products go high, so the last set is
+// tried first.
 fn search(
     order: &Order,
     layer: &[u32],
@@ -221,8 +221,10 @@ fn search(
         from: 0,
         to: lows.len(),
     };
+    let mut at = lows.len().saturating_sub(1);
     while reach.from < reach.to {
-        reach = narrow(order, lows, reach, p);
+        reach = narrow(order, lows, reach, at, p);
+        at = reach.from + (reach.to - reach.from) / 2;
     }
     place_between(order, rows, reach.place, reach.end, p)
 }

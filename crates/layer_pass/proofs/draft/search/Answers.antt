@@ -1,4 +1,4 @@
-use Rattle.std.proofs.Common.{◌<◌, length, subst, All}
+use Rattle.std.proofs.Common.{◌<◌, length, subst, All, arith}
 use Rattle.layer_pass.proofs.Rows.{earlier_rows}
 use Rattle.layer_pass.proofs.Sets.{placed}
 use Rattle.layer_pass.proofs.draft.search.Goals as goal
@@ -11,6 +11,7 @@ loop-reach-preserved c =
     record {
       open_sets = e.fewer.0;
       to = e.to;
+      next = λ h. let f = e.fewer.0 in (omega arith, omega arith);
       below = e.below count c.requires.within m.below;
       earlier = e.earlier m.earlier;
       end = e.end count c.requires.within m.end;

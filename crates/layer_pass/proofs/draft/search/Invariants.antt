@@ -10,6 +10,7 @@ abbrev pub invariant-loop-reach : goal.invariant-loop-reach
 invariant-loop-reach l = record {
   open_sets : l.reach.from ≤ l.reach.to;
   to : l.reach.to ≤ length l.lows;
+  next : l.reach.from < l.reach.to → (l.reach.from ≤ l.at) × (l.at < l.reach.to);
   below : l.reach.place.below ≤ length l.rows;
   earlier : l.reach.place.blocker ≤ l.p;
   end : l.reach.end ≤ length l.rows;
