@@ -1,0 +1,71 @@
+-- What a seat with the board may do.
+use Rattle.std.proofs.Common.{◌≡◌, ℕ, false, List, [], ◌∷◌, ◌++◌, drop, length, refl, ap, sym, ◌∙◌, subst, arith}
+use Rattle.std.proofs.Math.Seq.{drop-append_seam}
+use Rattle.atomic_table.specs.Table.{rest}
+use Rattle.atomic_table.specs.Seated.{TableId}
+use Rattle.board_core.specs.declared.Noted.{Noted}
+use Rattle.board_core.specs.declared.Entry.{Entry}
+use Rattle.board_core.specs.Position.{Position, with_history, note}
+use Rattle.grid_lock.specs.declared.view.View.{View}
+use Rattle.grid_lock.specs.Views.{IsSound, taking, counting, adding, freeing}
+use Rattle.grid_lock.specs.Plays.{Sat, history_of, TakesUp}
+use Rattle.grid_lock.specs.Hands.{HasBoard, HasAdded, GainsEntry, board_of}
+use Rattle.grid_lock.specs.Passes.{Known, known}
+use Rattle.grid_lock.specs.Replies.{turned, Accepts, Finds}
+use Rattle.grid_lock.proofs.Lists.{entries_mine, entries_other}
+
+-- its slot can be lent
+pub lends : (m : Sat) (log : List Noted) → HasBoard m log → (old : Position) × (m.1 ≡ (0, old) ∷ rest m.1)
+lends m log h = let board : Position = with_history m.0.opened log in (board, h.2 ∙ ap (λ l. (0, board) ∷ rest l) (sym h.2))
+
+-- a pass that adds an entry of its own stays sound
+pub adds_sound : (m : Sat) → HasAdded m → IsSound m.0 → IsSound (freeing (adding m.0 (history_of m.1)))
+adds_sound m h s =
+    let v : View = m.0 in
+    let e : Noted = h.0 in
+    let log : List Noted = v.seen ++ e ∷ [] in
+    let grown : IsSound (record v { seen = log; mine = v.mine ++ e ∷ []; holding = false }) = record {
+      legal = h.3;
+      own = entries_mine v.number v.seen e h.2 ∙ ap (λ l. l ++ e ∷ []) s.own;
+      later = λ first n more. entries_other n v.seen e (λ is. (let t : e.by ≡ 0 = h.2 ∙ first in omega arith)) ∙ s.later first n more;
+    } in
+    let last : drop (length v.seen) log ≡ e ∷ [] = drop-append_seam v.seen (e ∷ []) in
+    let same : history_of m.1 ≡ log = ap history_of h.1.2 in
+    subst (λ (l : List Noted). IsSound (freeing (adding v l))) (sym same) (subst (λ (l : List Noted). IsSound (record v { seen = log; mine = v.mine ++ l; holding = false })) (sym last) grown)
+
+-- what a pass knows after an accepted call: e was added to the history that it took
+pub settled_is : (v : View) (log : List Noted) (e : Noted) (c : List (ℕ × Position)) → c ≡ (0, with_history v.opened (log ++ e ∷ [])) ∷ []
+    → freeing (adding (counting (taking v log)) (history_of c)) ≡ turned v (log ++ e ∷ []) (v.mine ++ e ∷ [])
+settled_is v log e c is = ap (λ l. freeing (adding (counting (taking v log)) (history_of l))) is ∙ ap (λ (l : List Noted). turned v (log ++ e ∷ []) (v.mine ++ l)) (drop-append_seam log (e ∷ []))
+
+-- the same, as a reply: the pass knew v, l is its seat with the board in hand, m has the board with the entry, and n has given it back
+pub accepts : (k : Known) (grid : TableId) (v : View) (number : ℕ) (l m n : Sat) (e : Entry) (Answers : Position → Type 0) → known grid v ≡ k → number ≡ v.number
+    → l ≡ (counting (taking v l.0.seen), (0, with_history v.opened l.0.seen) ∷ []) → TakesUp v l.0.seen → GainsEntry l m (note number e) → Answers (board_of l)
+    → n ≡ (freeing (adding m.0 (history_of m.1)), []) → Accepts k.view e Answers n.0
+accepts k grid v number l m n e Answers view_is number_is took goes adds answers settled =
+    let log : List Noted = l.0.seen in
+    let x : Noted = note v.number e in
+    let is : l.0 ≡ counting (taking v log) = ap (λ (z : Sat). z.0) took in
+    let opened : l.0.opened ≡ v.opened = ap (λ (u : View). u.opened) is in
+    let added : GainsEntry l m x = subst (λ (by : ℕ). GainsEntry l m (note by e)) number_is adds in
+    let board = added.1 ∙ ap (λ (p : Position). (0, with_history p (log ++ x ∷ [])) ∷ []) opened in
+    let reply : Accepts v e Answers n.0 = (
+      log,
+      record { legal = goes.2.legal; begins = goes.0; read = goes.1 },
+      subst (λ (p : Position). Answers (with_history p log)) opened answers,
+      ap (λ (z : Sat). z.0) settled ∙ (ap (λ (w : View). freeing (adding w (history_of m.1))) (added.0 ∙ is) ∙ settled_is v log x m.1 board),
+    ) in subst (λ (p : Known). Accepts p.view e Answers n.0) view_is reply
+
+-- the same of a call that added nothing
+pub finds : (k : Known) (grid : TableId) (v : View) (l n : Sat) (Answers : Position → Type 0) → known grid v ≡ k
+    → l ≡ (counting (taking v l.0.seen), (0, with_history v.opened l.0.seen) ∷ []) → TakesUp v l.0.seen → Answers (board_of l) → n ≡ (freeing l.0, []) → Finds k.view Answers n.0
+finds k grid v l n Answers view_is took goes answers freed =
+    let log : List Noted = l.0.seen in
+    let is : l.0 ≡ counting (taking v log) = ap (λ (z : Sat). z.0) took in
+    let opened : l.0.opened ≡ v.opened = ap (λ (u : View). u.opened) is in
+    let after : n.0 ≡ turned v log v.mine = ap (λ (z : Sat). z.0) freed ∙ ap freeing is in
+    let found : Finds v Answers (turned v log v.mine) = (
+      record { legal = goes.2.legal; begins = goes.0; read = goes.1 },
+      subst (λ (p : Position). Answers (with_history p log)) opened answers,
+      refl,
+    ) in subst (λ (p : Known). Finds p.view Answers n.0) view_is (subst (Finds v Answers) (sym after) found)

@@ -1,0 +1,5 @@
+//! Tests of boards that threads share under a turn.
+#![tactic(auto)]
+
+#[cfg(test)]
+mod calls;
