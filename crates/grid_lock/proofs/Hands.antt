@@ -8,8 +8,8 @@ use Rattle.board_core.specs.declared.Entry.{Entry}
 use Rattle.board_core.specs.Position.{Position, with_history, note}
 use Rattle.grid_lock.specs.declared.view.View.{View}
 use Rattle.grid_lock.specs.Views.{IsSound, taking, counting, adding, freeing}
-use Rattle.grid_lock.specs.Plays.{Sat, history_of, TakesUp}
-use Rattle.grid_lock.specs.Hands.{HasBoard, HasAdded, GainsEntry, board_of}
+use Rattle.grid_lock.specs.Plays.{Sat, history_of}
+use Rattle.grid_lock.specs.Hands.{HasBoard, HasTaken, HasAdded, GainsEntry, board_of, with_own}
 use Rattle.grid_lock.specs.Passes.{Known, known}
 use Rattle.grid_lock.specs.Replies.{turned, Accepts, Finds}
 use Rattle.grid_lock.proofs.Lists.{entries_mine, entries_other}
@@ -19,7 +19,7 @@ pub lends : (m : Sat) (log : List Noted) → HasBoard m log → (old : Position)
 lends m log h = let board : Position = with_history m.0.opened log in (board, h.2 ∙ ap (λ l. (0, board) ∷ rest l) (sym h.2))
 
 -- a pass that adds an entry of its own stays sound
-pub adds_sound : (m : Sat) → HasAdded m → IsSound m.0 → IsSound (freeing (adding m.0 (history_of m.1)))
+pub adds_sound : (m : Sat) → HasAdded m → IsSound m.0 → IsSound (freeing (with_own m))
 adds_sound m h s =
     let v : View = m.0 in
     let e : Noted = h.0 in
@@ -39,31 +39,35 @@ pub settled_is : (v : View) (log : List Noted) (e : Noted) (c : List (ℕ × Pos
 settled_is v log e c is = ap (λ l. freeing (adding (counting (taking v log)) (history_of l))) is ∙ ap (λ (l : List Noted). turned v (log ++ e ∷ []) (v.mine ++ l)) (drop-append_seam log (e ∷ []))
 
 -- the same, as a reply: the pass knew v, l is its seat with the board in hand, m has the board with the entry, and n has given it back
-pub accepts : (k : Known) (grid : TableId) (v : View) (number : ℕ) (l m n : Sat) (e : Entry) (Answers : Position → Type 0) → known grid v ≡ k → number ≡ v.number
-    → l ≡ (counting (taking v l.0.seen), (0, with_history v.opened l.0.seen) ∷ []) → TakesUp v l.0.seen → GainsEntry l m (note number e) → Answers (board_of l)
-    → n ≡ (freeing (adding m.0 (history_of m.1)), []) → Accepts k.view e Answers n.0
-accepts k grid v number l m n e Answers view_is number_is took goes adds answers settled =
+pub accepts : (k : Known) (grid : TableId) (z : Sat) (number : ℕ) (l m n : Sat) (e : Entry) (Answers : Position → Type 0) → known grid z.0 ≡ k → number ≡ z.0.number
+    → HasTaken z l → GainsEntry l m number e → Answers (board_of l) → n ≡ (freeing (with_own m), []) → Accepts k.view e Answers n.0
+accepts k grid z number l m n e Answers view_is number_is taken adds answers settled =
+    let v : View = z.0 in
+    let goes = taken.0 in
+    let took = taken.1 in
     let log : List Noted = l.0.seen in
     let x : Noted = note v.number e in
-    let is : l.0 ≡ counting (taking v log) = ap (λ (z : Sat). z.0) took in
+    let is : l.0 ≡ counting (taking v log) = ap (λ (s : Sat). s.0) took in
     let opened : l.0.opened ≡ v.opened = ap (λ (u : View). u.opened) is in
-    let added : GainsEntry l m x = subst (λ (by : ℕ). GainsEntry l m (note by e)) number_is adds in
+    let added : GainsEntry l m v.number e = subst (λ (by : ℕ). GainsEntry l m by e) number_is adds in
     let board = added.1 ∙ ap (λ (p : Position). (0, with_history p (log ++ x ∷ [])) ∷ []) opened in
     let reply : Accepts v e Answers n.0 = (
       log,
       record { legal = goes.2.legal; begins = goes.0; read = goes.1 },
       subst (λ (p : Position). Answers (with_history p log)) opened answers,
-      ap (λ (z : Sat). z.0) settled ∙ (ap (λ (w : View). freeing (adding w (history_of m.1))) (added.0 ∙ is) ∙ settled_is v log x m.1 board),
+      ap (λ (s : Sat). s.0) settled ∙ (ap (λ (w : View). freeing (adding w (history_of m.1))) (added.0 ∙ is) ∙ settled_is v log x m.1 board),
     ) in subst (λ (p : Known). Accepts p.view e Answers n.0) view_is reply
 
 -- the same of a call that added nothing
-pub finds : (k : Known) (grid : TableId) (v : View) (l n : Sat) (Answers : Position → Type 0) → known grid v ≡ k
-    → l ≡ (counting (taking v l.0.seen), (0, with_history v.opened l.0.seen) ∷ []) → TakesUp v l.0.seen → Answers (board_of l) → n ≡ (freeing l.0, []) → Finds k.view Answers n.0
-finds k grid v l n Answers view_is took goes answers freed =
+pub finds : (k : Known) (grid : TableId) (z l n : Sat) (Answers : Position → Type 0) → known grid z.0 ≡ k → HasTaken z l → Answers (board_of l) → n ≡ (freeing l.0, []) → Finds k.view Answers n.0
+finds k grid z l n Answers view_is taken answers freed =
+    let v : View = z.0 in
+    let goes = taken.0 in
+    let took = taken.1 in
     let log : List Noted = l.0.seen in
-    let is : l.0 ≡ counting (taking v log) = ap (λ (z : Sat). z.0) took in
+    let is : l.0 ≡ counting (taking v log) = ap (λ (s : Sat). s.0) took in
     let opened : l.0.opened ≡ v.opened = ap (λ (u : View). u.opened) is in
-    let after : n.0 ≡ turned v log v.mine = ap (λ (z : Sat). z.0) freed ∙ ap freeing is in
+    let after : n.0 ≡ turned v log v.mine = ap (λ (s : Sat). s.0) freed ∙ ap freeing is in
     let found : Finds v Answers (turned v log v.mine) = (
       record { legal = goes.2.legal; begins = goes.0; read = goes.1 },
       subst (λ (p : Position). Answers (with_history p log)) opened answers,

@@ -1,16 +1,13 @@
 //! The steps of a call, on the table itself.
 
-ghost use Rattle.std.specs.Prelude.{◌≡◌, ℕ, ◌≤◌, true, false, [], ◌∷◌, length, IfOk, IfErr, MatchResult};
-ghost use Rattle.board_core.specs.declared.Entry.{Entry as Entries};
+ghost use Rattle.std.specs.Prelude.{◌≡◌, ◌≤◌, true, false, [], length, IfOk, IfErr};
 ghost use Rattle.board_core.specs.declared.Entry.TheVariants.{Release};
 ghost use Rattle.board_core.specs.declared.Entry.TheVariants as entry;
 ghost use Rattle.board_core.specs.Causes.{claim_of};
 ghost use Rattle.board_core.specs.Laws.{ProductsOfLength};
-ghost use Rattle.board_core.specs.Position.{with_history, note};
-ghost use Rattle.grid_lock.specs.Views.{met, taking, counting, reading, adding, freeing, IsSound};
-ghost use Rattle.grid_lock.specs.Plays.{TakesUp, history_of};
-ghost use Rattle.grid_lock.specs.Hands.{IsIdle, HasBoard, HasAdded, GainsEntry, board_of};
-ghost use Rattle.grid_lock.specs.Answers.{AcceptsClaim, RefusesClaim, AcceptsOutcome, RefusesOutcome, AcceptsRelease, RefusesRelease, AcceptsStep, RefusesStep, ShowsProduct, ShowsNothing};
+ghost use Rattle.grid_lock.specs.Views.{met, reading, freeing, IsSound};
+ghost use Rattle.grid_lock.specs.Hands.{IsIdle, HasBoard, HasTaken, HasAdded, GainsEntry, GainsOutcome, board_of, with_own};
+ghost use Rattle.grid_lock.specs.Answers.{AcceptsClaim, RefusesClaim, RefusesOutcome, AcceptsRelease, RefusesRelease, AcceptsStep, RefusesStep, ShowsProduct, ShowsNothing};
 
 use crate::plays::{Add, Count, Free, Look, OneHistory, Take};
 use crate::view::View;
@@ -42,7 +39,9 @@ pub(crate) fn measure(core: &Core, seat: &mut PassSeat) -> u32
     requires core { (core.now.table_id.words ≡ 2) × (seat.old.table_id ≡ core.now.table_id) }
     requires idle { IsIdle seat.old.me }
     ensures seat { (seat.new.table_id ≡ seat.old.table_id) × (seat.new.id ≡ seat.old.id) }
-    ensures told { (seat.old.me.0.read ≤ result) × (length seat.old.me.0.seen ≤ result) × (seat.new.me ≡ (reading seat.old.me.0 result, seat.old.me.1)) }
+    ensures read { seat.old.me.0.read ≤ result }
+    ensures seen { length seat.old.me.0.seen ≤ result }
+    ensures told { seat.new.me ≡ (reading seat.old.me.0 result, seat.old.me.1) }
 {
     core.load::<Look>(seat, LENGTH) as u32
 }
@@ -52,7 +51,7 @@ pub(crate) fn take_turn(core: &Core, seat: &mut PassSeat) -> bool
     requires core { (core.now.table_id.words ≡ 2) × (seat.old.table_id ≡ core.now.table_id) }
     requires idle { IsIdle seat.old.me }
     ensures seat { (seat.new.table_id ≡ seat.old.table_id) × (seat.new.id ≡ seat.old.id) }
-    ensures won { result ≡ true → TakesUp seat.old.me.0 seat.new.me.0.seen × (seat.new.me ≡ (counting (taking seat.old.me.0 seat.new.me.0.seen), (0, with_history seat.old.me.0.opened seat.new.me.0.seen) ∷ [])) }
+    ensures won { result ≡ true → HasTaken seat.old.me seat.new.me }
     ensures busy { result ≡ false → seat.new.me ≡ (met seat.old.me.0, []) }
 {
     if core.compare_exchange::<Take>(seat, TURN, FREE, HELD) != FREE {
@@ -67,7 +66,7 @@ fn add(core: &Core, seat: &mut PassSeat)
     requires core { (core.now.table_id.words ≡ 2) × (seat.old.table_id ≡ core.now.table_id) }
     requires hand { HasAdded seat.old.me }
     ensures seat { (seat.new.table_id ≡ seat.old.table_id) × (seat.new.id ≡ seat.old.id) }
-    ensures added { seat.new.me ≡ (adding seat.old.me.0 (history_of seat.old.me.1), seat.old.me.1) }
+    ensures added { seat.new.me ≡ (with_own seat.old.me, seat.old.me.1) }
 {
     core.fetch_add::<Add>(seat, LENGTH, 1);
 }
@@ -87,7 +86,7 @@ pub(crate) fn settle(core: &Core, seat: &mut PassSeat)
     requires core { (core.now.table_id.words ≡ 2) × (seat.old.table_id ≡ core.now.table_id) }
     requires hand { HasAdded seat.old.me }
     ensures seat { (seat.new.table_id ≡ seat.old.table_id) × (seat.new.id ≡ seat.old.id) }
-    ensures settled { seat.new.me ≡ (freeing (adding seat.old.me.0 (history_of seat.old.me.1)), []) }
+    ensures settled { seat.new.me ≡ (freeing (with_own seat.old.me), []) }
     ensures sound { IsSound seat.old.me.0 → IsSound seat.new.me.0 }
 {
     add(core, seat);
@@ -105,8 +104,11 @@ pub(crate) fn claim_in_hand(
     requires core { seat.old.table_id ≡ core.now.table_id }
     requires hand { HasBoard seat.old.me seat.old.me.0.seen }
     ensures seat { (seat.new.table_id ≡ seat.old.table_id) × (seat.new.id ≡ seat.old.id) }
-    ensures accepted { IfOk result (λ c. GainsEntry seat.old.me seat.new.me (note by (claim_of plan c.state)) × AcceptsClaim (board_of seat.old.me) plan c) }
-    ensures refused { IfErr result (λ r. (seat.new.me ≡ seat.old.me) × RefusesClaim (board_of seat.old.me) plan r.why × (r.plan ≡ plan) × (r.node ≡ node)) }
+    ensures gains { IfOk result (λ c. GainsEntry seat.old.me seat.new.me by (claim_of plan c.state)) }
+    ensures accepted { IfOk result (AcceptsClaim (board_of seat.old.me) plan) }
+    ensures same { IfErr result (λ r. seat.new.me ≡ seat.old.me) }
+    ensures refused { IfErr result (λ r. RefusesClaim (board_of seat.old.me) plan r.why) }
+    ensures back { IfErr result (λ r. (r.plan ≡ plan) × (r.node ≡ node)) }
 {
     let board = seat.slot_mut(core, 0);
     board.claim(by, plan, node)
@@ -124,8 +126,10 @@ pub(crate) fn deliver_in_hand(
     requires core { seat.old.table_id ≡ core.now.table_id }
     requires hand { HasBoard seat.old.me seat.old.me.0.seen }
     ensures seat { (seat.new.table_id ≡ seat.old.table_id) × (seat.new.id ≡ seat.old.id) }
-    ensures accepted { IfOk result (λ place. (e : Entries) × GainsEntry seat.old.me seat.new.me (note by e) × AcceptsOutcome (board_of seat.old.me) p given e place) }
-    ensures refused { IfErr result (λ r. (seat.new.me ≡ seat.old.me) × RefusesOutcome (board_of seat.old.me) p given r.why × (r.node ≡ node)) }
+    ensures accepted { IfOk result (GainsOutcome seat.old.me seat.new.me by p given) }
+    ensures same { IfErr result (λ r. seat.new.me ≡ seat.old.me) }
+    ensures refused { IfErr result (λ r. RefusesOutcome (board_of seat.old.me) p given r.why) }
+    ensures back { IfErr result (λ r. r.node ≡ node) }
 {
     let board = seat.slot_mut(core, 0);
     board.deliver(by, p, given, node)
@@ -142,8 +146,11 @@ pub(crate) fn release_in_hand(
     requires core { seat.old.table_id ≡ core.now.table_id }
     requires hand { HasBoard seat.old.me seat.old.me.0.seen }
     ensures seat { (seat.new.table_id ≡ seat.old.table_id) × (seat.new.id ≡ seat.old.id) }
-    ensures accepted { IfOk result (λ place. GainsEntry seat.old.me seat.new.me (note by (Release p)) × AcceptsRelease (board_of seat.old.me) p place) }
-    ensures refused { IfErr result (λ r. (seat.new.me ≡ seat.old.me) × RefusesRelease (board_of seat.old.me) p r.why × (r.node ≡ node)) }
+    ensures gains { IfOk result (λ place. GainsEntry seat.old.me seat.new.me by (Release p)) }
+    ensures accepted { IfOk result (AcceptsRelease (board_of seat.old.me) p) }
+    ensures same { IfErr result (λ r. seat.new.me ≡ seat.old.me) }
+    ensures refused { IfErr result (λ r. RefusesRelease (board_of seat.old.me) p r.why) }
+    ensures back { IfErr result (λ r. r.node ≡ node) }
 {
     let board = seat.slot_mut(core, 0);
     board.release(by, p, node)
@@ -160,8 +167,11 @@ pub(crate) fn step_in_hand(
     requires core { seat.old.table_id ≡ core.now.table_id }
     requires hand { HasBoard seat.old.me seat.old.me.0.seen }
     ensures seat { (seat.new.table_id ≡ seat.old.table_id) × (seat.new.id ≡ seat.old.id) }
-    ensures accepted { IfOk result (λ r. GainsEntry seat.old.me seat.new.me (note by (entry.Step f)) × AcceptsStep (board_of seat.old.me) f r) }
-    ensures refused { IfErr result (λ r. (seat.new.me ≡ seat.old.me) × RefusesStep (board_of seat.old.me) f r.why × (r.node ≡ node)) }
+    ensures gains { IfOk result (λ r. GainsEntry seat.old.me seat.new.me by (entry.Step f)) }
+    ensures accepted { IfOk result (AcceptsStep (board_of seat.old.me) f) }
+    ensures same { IfErr result (λ r. seat.new.me ≡ seat.old.me) }
+    ensures refused { IfErr result (λ r. RefusesStep (board_of seat.old.me) f r.why) }
+    ensures back { IfErr result (λ r. r.node ≡ node) }
 {
     let board = seat.slot_mut(core, 0);
     board.step(by, f, node)
@@ -178,8 +188,10 @@ pub(crate) fn look_in_hand(
     requires hand { HasBoard seat.old.me seat.old.me.0.seen }
     requires held { length look.old.held ≡ length seat.old.me.0.opened.job.grid.sites }
     requires axis { ProductsOfLength (length look.old.axis.letters) seat.old.me.0.opened.job.products }
-    ensures seat { (seat.new.table_id ≡ seat.old.table_id) × (seat.new.id ≡ seat.old.id) × (seat.new.me ≡ seat.old.me) }
-    ensures seen { MatchResult result (λ _. ShowsProduct (board_of seat.old.me) p look.new) (λ _. ShowsNothing (board_of seat.old.me) p look.old look.new) }
+    ensures seat { (seat.new.table_id ≡ seat.old.table_id) × (seat.new.id ≡ seat.old.id) }
+    ensures same { seat.new.me ≡ seat.old.me }
+    ensures shown { IfOk result (λ _. ShowsProduct (board_of seat.old.me) p look.new) }
+    ensures nothing { IfErr result (λ _. ShowsNothing (board_of seat.old.me) p look.old look.new) }
     ensures held { length look.new.held ≡ length look.old.held }
     ensures long { length look.new.axis.letters ≡ length look.old.axis.letters }
 {

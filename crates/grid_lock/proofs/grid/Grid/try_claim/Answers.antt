@@ -7,7 +7,6 @@ use Rattle.grid_lock.proofs.grid.Grid.try_claim.Goals as goal
 pub returns-in-Ok-clause-told : goal.returns-in-Ok-clause-told
 returns-in-Ok-clause-told c =
     let won = c.take_turn.ensures.won (search rules) in
-    let told = c.in-Ok.ensures.accepted in
-    accepts c.args.pass.now c.pass.inside.seat.table_id c.pass.inside.seat.me.0 c.pass.inside.number c.take_turn.new.seat.me c.claim_in_hand.new.seat.me c.settle.new.seat.me
+    accepts c.args.pass.now c.pass.inside.seat.table_id c.pass.inside.seat.me c.pass.inside.number c.take_turn.new.seat.me c.claim_in_hand.new.seat.me c.settle.new.seat.me
     (claim_of c.args.plan c.in-Ok.claimed.state) (λ b. AcceptsClaim b c.args.plan c.in-Ok.claimed)
-    c.pass.view_is c.pass.invariant.number_is won.1 won.0 told.0 told.1 c.settle.ensures.settled
+    c.pass.view_is c.pass.invariant.number_is won c.in-Ok.ensures.gains c.in-Ok.ensures.accepted c.settle.ensures.settled

@@ -8,7 +8,7 @@ returns-in-Ok-clause-told c =
     let won = c.take_turn.ensures.won (search rules) in
     let told = c.in-Ok.ensures.accepted in (
       told.0,
-      accepts c.args.pass.now c.pass.inside.seat.table_id c.pass.inside.seat.me.0 c.pass.inside.number c.take_turn.new.seat.me c.deliver_in_hand.new.seat.me c.settle.new.seat.me
+      accepts c.args.pass.now c.pass.inside.seat.table_id c.pass.inside.seat.me c.pass.inside.number c.take_turn.new.seat.me c.deliver_in_hand.new.seat.me c.settle.new.seat.me
           told.0 (λ b. AcceptsOutcome b c.args.p c.args.given told.0 c.in-Ok.place)
-          c.pass.view_is c.pass.invariant.number_is won.1 won.0 told.1 told.2 c.settle.ensures.settled,
+          c.pass.view_is c.pass.invariant.number_is won told.1 told.2 c.settle.ensures.settled,
     )
