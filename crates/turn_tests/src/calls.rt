@@ -1,85 +1,32 @@
-//! A pi/8 rotation about Z and a measurement of Z on the row layout of one qubit: cells 0 to 3 above; 4, 5 (the patch),
-//! 6, 7 (the port) below. The port's factory makes a state in eleven steps, and has room for one.
+//! Each call of a grid, in one thread.
 
-ghost use Rattle.std.specs.Prelude.{◌≡◌, [], ◌∷◌, true, IfOk};
-ghost use Rattle.pauli_product.specs.Signed.{plus};
-ghost use Rattle.pauli_product.specs.declared.Letter.TheVariants as letter;
-ghost use Rattle.source_model.specs.declared.Kind.TheVariants as kind;
 ghost use Rattle.grid_lock.specs.Passes.{IsOf};
 
-use board_core::{Board, ClaimWhy, Claimed, order_of, pool_of};
+use crate::board::{ROW, Row, board_for, look_for, plan_for};
+use board_core::{ClaimWhy, Claimed};
 use grid_lock::{CloseRefused, Grid, Pass, TryClaim, TryLook};
 use node_log::Node;
-use patch_base::{Memory, Need, Used};
-use patch_layout::{CellList, Layout, Look, Plan, certify};
-use pauli_product::{Letter, Product};
-use source_model::{Given, Kind, Static};
+use patch_base::Memory;
+use patch_layout::Plan;
+use source_model::{Given, Kind};
 use std::alloc::Global;
 use std::process::Abort;
 use std::test::Fail;
-use std::thread::join;
 
-fn products(alloc: Global) -> Result<Vec<Static>, Memory>
-    ensures { IfOk result (λ v. v.items ≡ record { axis = plus (letter.Z ∷ []); kind = kind.Rotation } ∷ record { axis = plus (letter.Z ∷ []); kind = kind.Measure 0 } ∷ []) }
-{
-    let mut products = Vec::new(alloc);
-    products.push(Static {
-        axis: Product::new(alloc, false, &[Letter::Z])?,
-        kind: Kind::Rotation,
-    })?;
-    products.push(Static {
-        axis: Product::new(alloc, false, &[Letter::Z])?,
-        kind: Kind::Measure { bit: 0 },
-    })?;
-    Ok(products)
-}
+static ROWS: [Row; 2] = [(b"+ZI", Kind::Rotation), (b"+ZI", Kind::Measure { bit: 0 })];
 
-fn board(rt: &impl Abort, alloc: Global) -> Result<Board, Memory>
-    ensures products { IfOk result (λ b. b.job.products ≡ record { axis = plus (letter.Z ∷ []); kind = kind.Rotation } ∷ record { axis = plus (letter.Z ∷ []); kind = kind.Measure 0 } ∷ []) }
-    ensures empty { IfOk result (λ b. b.history ≡ []) }
-{
-    let need = Need {
-        qubits: 1,
-        used: Used::of(vec![in alloc; true]?),
-        rotations: true,
-    };
-    let Ok(layout) = Layout::row(alloc, &need) else {
-        panic!(rt; "the row layout");
-    };
-    let products = products(alloc)?;
-    let order = order_of(alloc, &products)?;
-    let pool = pool_of(alloc, &layout, &[])?;
-    Board::new(alloc, layout, order, products, pool)
-}
-
-// A plan for Z of the patch.
-fn plan(
-    alloc: Global,
-    layout: &Layout,
-    p: u32,
-    port: Option<u32>,
-    cells: &[u32],
-) -> Result<Plan, Memory> {
-    let axis = Product::new(alloc, false, &[Letter::Z])?;
-    let cells = CellList::of(Vec::from_slice(alloc, cells)?);
-    certify(alloc, layout, p, axis, port, cells)
-}
-
-// How many steps of the factory were accepted, of so many tries.
-fn steps(alloc: Global, grid: &Grid, pass: &mut Pass, tries: u32) -> u32
+// How many steps of factory 0 were accepted, of so many tries.
+fn steps(alloc: Global, grid: &Grid, pass: &mut Pass, tries: u32) -> Result<u32, Memory>
     requires { IsOf grid.now pass.old }
     ensures { IsOf grid.now pass.new }
 {
     let mut made = 0u32;
     for _ in 0..tries {
-        let Ok(node) = Node::empty(alloc) else {
-            break;
-        };
-        if grid.try_step(pass, 0, node).is_ok() {
+        if grid.try_step(pass, 0, Node::empty(alloc)?).is_ok() {
             made = made.wrapping_add(1);
         }
     }
-    made
+    Ok(made)
 }
 
 // The rotation is claimed, delivered and released, and holds the measurement back meanwhile.
@@ -117,13 +64,13 @@ fn carry_out(
 #[test]
 fn each_call_answers(rt: HostRuntime) -> Result<(), Fail> {
     let alloc = rt.alloc();
-    let board = board(&rt, alloc)?;
-    let mut look = Look::new(alloc, board.layout(), 1)?;
-    let rotation = plan(alloc, board.layout(), 0, Some(0), &[1, 2, 3])?;
-    let early = plan(alloc, board.layout(), 1, None, &[1])?;
-    let late = plan(alloc, board.layout(), 1, None, &[1])?;
+    let board = board_for(alloc, ROW, true, &ROWS, &[])?;
+    let mut look = look_for(alloc, &board)?;
+    let rotation = plan_for(alloc, board.layout(), 0, b"+ZI", Some(0), &[1, 2, 3, 4, 5])?;
+    let early = plan_for(alloc, board.layout(), 1, b"+ZI", None, &[1])?;
+    let late = plan_for(alloc, board.layout(), 1, b"+ZI", None, &[1])?;
     let (grid, mut zero) = Grid::open(alloc, board).ok().ok_or(Memory)?;
-    assert_eq!(rt; steps(alloc, &grid, &mut zero, 12), 11);
+    assert_eq!(rt; steps(alloc, &grid, &mut zero, 12)?, 11);
     carry_out(&rt, alloc, &grid, &mut zero, rotation, early)?;
     assert_eq!(rt; grid.length(&mut zero), 14);
     assert_eq!(rt; grid.try_look(&mut zero, 1, &mut look), Ok(()));
@@ -164,44 +111,4 @@ fn each_call_answers(rt: HostRuntime) -> Result<(), Fail> {
         None => panic!(rt; "an entry"),
     }
     Ok(())
-}
-
-// The factory takes eleven steps in all, whichever pass makes them.
-#[test]
-fn two_threads(rt: HostRuntime) -> Result<(), Fail> {
-    let alloc = rt.alloc();
-    let board = board(&rt, alloc)?;
-    let (grid, mut zero) = Grid::open(alloc, board).ok().ok_or(Memory)?;
-    let mut others = Vec::with_capacity(alloc, 2)?;
-    let one = grid.split(&mut zero)?;
-    let two = grid.split(&mut zero)?;
-    let lock = &grid;
-    let (a, b) = join(
-        &rt,
-        || -> (Pass, u32)
-            requires { IsOf lock.now one }
-            ensures { IsOf lock.entry.now result.0 }
-        { tried(alloc, lock, one) },
-        || -> (Pass, u32)
-            requires { IsOf lock.now two }
-            ensures { IsOf lock.entry.now result.0 }
-        { tried(alloc, lock, two) },
-    );
-    others.push_reserved(a.0);
-    others.push_reserved(b.0);
-    let Ok(board) = grid.close(zero, others) else {
-        panic!(rt; "all passes");
-    };
-    let length = board.history().length();
-    assert_eq!(rt; length, a.1.wrapping_add(b.1));
-    assert!(rt; length <= 11);
-    Ok(())
-}
-
-fn tried(alloc: Global, grid: &Grid, mut pass: Pass) -> (Pass, u32)
-    requires { IsOf grid.now pass }
-    ensures { IsOf grid.now result.0 }
-{
-    let made = steps(alloc, grid, &mut pass, 40);
-    (pass, made)
 }

@@ -2,4 +2,12 @@
 #![tactic(auto)]
 
 #[cfg(test)]
+mod board;
+#[cfg(test)]
 mod calls;
+#[cfg(test)]
+mod refusals;
+#[cfg(test)]
+mod stale;
+#[cfg(test)]
+mod threads;
