@@ -3,7 +3,7 @@
 ghost use Rattle.std.specs.Prelude.{◌≡◌, ◌≢◌, ℕ, ◌+◌, ◌<◌, ◌≤◌, ◌↔◌, [], false, length, IsOk, IfOk, IfErr};
 ghost use Rattle.std.specs.List.{All};
 ghost use Rattle.board_core.specs.declared.Noted.{Noted as Entries};
-ghost use Rattle.board_core.specs.Laws.{ProductsOfLength};
+ghost use Rattle.board_core.specs.Shows.{IsMadeFor};
 ghost use Rattle.grid_lock.specs.Views.{opener, dealing, newcomer};
 ghost use Rattle.grid_lock.specs.Passes.{Known, known, IsOf, IsSamePass, IsCalm, Closes, gathered};
 ghost use Rattle.grid_lock.specs.Replies.{Claims, Delivers, Releases, Steps, Looks, Measures};
@@ -199,14 +199,14 @@ impl Grid {
     /// for the number of qubits of its products, and still is.
     pub fn try_look(&self, pass: &mut Pass, p: u32, look: &mut Look) -> Result<(), TryLook>
         requires grid { IsOf self.now pass.old }
-        requires held { length look.old.held ≡ length self.now.opened.job.grid.sites }
-        requires axis { ProductsOfLength (length look.old.axis.letters) self.now.opened.job.products }
+        requires made { IsMadeFor self.now.opened look.old }
         ensures grid { IsOf self.now pass.new }
         ensures same { IsSamePass pass.old pass.new }
         ensures told { Looks pass.old.view p look.old result pass.new.view look.new }
         ensures rests { IsCalm pass.new }
         ensures held { length look.new.held ≡ length look.old.held }
         ensures long { length look.new.axis.letters ≡ length look.old.axis.letters }
+        ensures made { IsMadeFor self.now.opened look.new }
     {
         let core = &self.table.shared;
         if !take_turn(core, &mut pass.seat) {

@@ -4,7 +4,7 @@ ghost use Rattle.std.specs.Prelude.{◌≡◌, ◌≤◌, true, false, [], lengt
 ghost use Rattle.board_core.specs.declared.Entry.TheVariants.{Release};
 ghost use Rattle.board_core.specs.declared.Entry.TheVariants as entry;
 ghost use Rattle.board_core.specs.Causes.{claim_of};
-ghost use Rattle.board_core.specs.Laws.{ProductsOfLength};
+ghost use Rattle.board_core.specs.Shows.{IsMadeFor};
 ghost use Rattle.grid_lock.specs.Views.{met, reading, freeing, IsSound};
 ghost use Rattle.grid_lock.specs.Hands.{IsIdle, HasBoard, HasTaken, HasAdded, GainsEntry, GainsOutcome, board_of, with_own};
 ghost use Rattle.grid_lock.specs.Answers.{AcceptsClaim, RefusesClaim, RefusesOutcome, AcceptsRelease, RefusesRelease, AcceptsStep, RefusesStep, ShowsProduct, ShowsNothing};
@@ -186,8 +186,7 @@ pub(crate) fn look_in_hand(
 ) -> Result<(), NoProduct>
     requires core { seat.old.table_id ≡ core.now.table_id }
     requires hand { HasBoard seat.old.me seat.old.me.0.seen }
-    requires held { length look.old.held ≡ length seat.old.me.0.opened.job.grid.sites }
-    requires axis { ProductsOfLength (length look.old.axis.letters) seat.old.me.0.opened.job.products }
+    requires made { IsMadeFor seat.old.me.0.opened look.old }
     ensures seat { (seat.new.table_id ≡ seat.old.table_id) × (seat.new.id ≡ seat.old.id) }
     ensures same { seat.new.me ≡ seat.old.me }
     ensures shown { IfOk result (λ _. ShowsProduct (board_of seat.old.me) p look.new) }

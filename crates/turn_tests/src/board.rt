@@ -8,6 +8,7 @@ ghost use Rattle.pauli_product.specs.Signed.{IsNotIdentity};
 ghost use Rattle.patch_layout.specs.Grid.{Open};
 ghost use Rattle.patch_layout.specs.Row.{wanted};
 ghost use Rattle.board_core.specs.Laws.{ProductsOfLength};
+ghost use Rattle.board_core.specs.Shows.{IsMadeFor};
 ghost use Rattle.turn_tests.specs.Rows.{IsServed};
 
 use board_core::{Board, order_of, pool_of};
@@ -105,8 +106,8 @@ pub(crate) fn board_for(
 
 /// A look for such a board.
 pub(crate) fn look_for(alloc: Global, board: &Board) -> Result<Look, Memory>
-    ensures held { IfOk result (λ l. length l.held ≡ length board.now.job.grid.sites) }
-    ensures axis { IfOk result (λ l. length l.axis.letters ≡ 2) }
+    requires { ProductsOfLength 2 board.now.job.products }
+    ensures { IfOk result (IsMadeFor board.now) }
 {
     Look::new(alloc, board.layout(), 2)
 }

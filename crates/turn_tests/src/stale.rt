@@ -4,7 +4,7 @@
 
 ghost use Rattle.std.specs.Thread.{IsSync};
 ghost use Rattle.grid_lock.specs.Passes.{IsOf};
-ghost use Rattle.turn_tests.specs.Rows.{IsMadeFor};
+ghost use Rattle.board_core.specs.Shows.{IsMadeFor};
 
 use crate::board::{Row, board_for, look_for, plan_for};
 use board_core::{ClaimWhy, Claimed, Noted};
@@ -33,9 +33,9 @@ type Answer = Result<Claimed, TryClaim>;
 // Fills a look, and says whether it did: it doesn't where each try found the turn held.
 fn looked(grid: &Grid, mut pass: Pass, p: u32, mut look: Look) -> (Pass, Look, bool)
     requires grid { IsOf grid.now pass }
-    requires look { IsMadeFor look grid.now.opened }
+    requires look { IsMadeFor grid.now.opened look }
     ensures grid { IsOf grid.now result.0 }
-    ensures look { IsMadeFor result.1 grid.now.opened }
+    ensures look { IsMadeFor grid.now.opened result.1 }
 {
     let mut done = false;
     for _ in 0..TRIES {
@@ -115,18 +115,18 @@ fn both_look<R: Threads + Sync + Abort>(
     two: (Pass, Look),
 ) -> (Pass, Pass)
     requires passes { IsOf grid.now one.0 × IsOf grid.now two.0 }
-    requires looks { IsMadeFor one.1 grid.now.opened × IsMadeFor two.1 grid.now.opened }
+    requires looks { IsMadeFor grid.now.opened one.1 × IsMadeFor grid.now.opened two.1 }
     ensures { IsOf grid.now result.0 × IsOf grid.now result.1 }
 {
     let (a, b) = join(
         rt,
         || -> (Pass, Look, bool)
-            requires { IsSync R.row × IsOf grid.now one.0 × IsMadeFor one.1 grid.now.opened }
-            ensures { IsOf grid.entry.now result.0 × IsMadeFor result.1 grid.entry.now.opened }
+            requires { IsSync R.row × IsOf grid.now one.0 × IsMadeFor grid.now.opened one.1 }
+            ensures { IsOf grid.entry.now result.0 × IsMadeFor grid.entry.now.opened result.1 }
         { looked(grid, one.0, 0, one.1) },
         || -> (Pass, Look, bool)
-            requires { IsSync R.row × IsOf grid.now two.0 × IsMadeFor two.1 grid.now.opened }
-            ensures { IsOf grid.entry.now result.0 × IsMadeFor result.1 grid.entry.now.opened }
+            requires { IsSync R.row × IsOf grid.now two.0 × IsMadeFor grid.now.opened two.1 }
+            ensures { IsOf grid.entry.now result.0 × IsMadeFor grid.entry.now.opened result.1 }
         { looked(grid, two.0, 1, two.1) },
     );
     (
@@ -145,7 +145,7 @@ fn sees_nothing(
     done: bool,
 ) -> Pass
     requires grid { IsOf grid.now pass }
-    requires look { IsMadeFor look grid.now.opened }
+    requires look { IsMadeFor grid.now.opened look }
     ensures { IsOf grid.now result }
 {
     if !done {
