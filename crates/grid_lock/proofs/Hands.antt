@@ -10,7 +10,7 @@ use Rattle.grid_lock.specs.declared.view.View.{View}
 use Rattle.grid_lock.specs.Views.{IsSound, taking, counting, adding, freeing}
 use Rattle.grid_lock.specs.Plays.{Sat, history_of}
 use Rattle.grid_lock.specs.Hands.{HasBoard, HasTaken, HasAdded, GainsEntry, board_of, with_own}
-use Rattle.grid_lock.specs.Passes.{Known, known}
+use Rattle.grid_lock.specs.Passes.{Known, known, IsCalm}
 use Rattle.grid_lock.specs.Replies.{turned, Accepts, Finds}
 use Rattle.grid_lock.proofs.Lists.{entries_mine, entries_other}
 
@@ -57,6 +57,15 @@ accepts k grid z number l m n e Answers view_is number_is taken adds answers set
       subst (λ (p : Position). Answers (with_history p log)) opened answers,
       ap (λ (s : Sat). s.0) settled ∙ (ap (λ (w : View). freeing (adding w (history_of m.1))) (added.0 ∙ is) ∙ settled_is v log x m.1 board),
     ) in subst (λ (p : Known). Accepts p.view e Answers n.0) view_is reply
+
+-- the pass doesn't hold the turn afterwards
+pub calm : (grid : TableId) (z l m n : Sat) (by : ℕ) (e : Entry) → HasTaken z l → GainsEntry l m by e → (IsSound m.0 → IsSound n.0)
+    → n ≡ (freeing (with_own m), []) → IsCalm (known grid n.0)
+calm grid z l m n by e taken adds sound settled =
+    let took = taken.0.2 in
+    let counted : IsSound (counting (taking z.0 l.0.seen)) = record { legal = took.legal; own = took.own; later = took.later } in
+    let after = sound (subst IsSound (sym (adds.0 ∙ ap (λ (s : Sat). s.0) taken.1)) counted) in
+    record { idle = ap (λ (s : Sat). s.0.holding) settled; legal = after.legal; own = after.own }
 
 -- the same of a call that added nothing
 pub finds : (k : Known) (grid : TableId) (z l n : Sat) (Answers : Position → Type 0) → known grid z.0 ≡ k → HasTaken z l → Answers (board_of l) → n ≡ (freeing l.0, []) → Finds k.view Answers n.0

@@ -25,10 +25,8 @@ board_is m b hand lent = ap (first b) (sym lent ∙ hand.2)
 pub refuses_claim : (m : Sat) (b after : Position) (plan : Plan) (node : Ptr) (r : Result Claimed ClaimRefused) → HasBoard m m.0.seen → m.1 ≡ (0, b) ∷ rest m.1
     → IfErr r (λ (x : ClaimRefused). (after ≡ b) × ClaimRefusedBecause x.why b plan × (x.plan ≡ plan) × (x.node ≡ node))
     → ((state : Option ℕ) → Allowed b.job (past b) (claim_of plan state) → Certified (case_of b.job.grid (is_some plan.port) plan) → IsOk r)
-    → IfErr r (λ (x : ClaimRefused). (let n : Sat = (m.0, (0, after) ∷ rest m.1) in n ≡ m) × RefusesClaim (board_of m) plan x.why × (x.plan ≡ plan) × (x.node ≡ node))
+    → IfErr r (λ (x : ClaimRefused). RefusesClaim (board_of m) plan x.why)
 refuses_claim m b after plan node (Ok c) hand lent refused complete = tt
 refuses_claim m b after plan node (Err x) hand lent refused complete =
-    let back : (let n : Sat = (m.0, (0, after) ∷ rest m.1) in n ≡ m) =
-    ap (λ (p : Position). let n : Sat = (m.0, (0, p) ∷ rest m.1) in n) refused.0 ∙ ap (λ (l : List (ℕ × Position)). let n : Sat = (m.0, l) in n) (sym lent) in
     let answer : RefusesClaim b plan x.why = record { because = refused.1; forbidden = λ state allowed certified. let accepted = complete state allowed certified in cc } in
-    (back, subst (λ (p : Position). RefusesClaim p plan x.why) (board_is m b hand lent) answer, refused.2, refused.3)
+    subst (λ (p : Position). RefusesClaim p plan x.why) (board_is m b hand lent) answer
