@@ -143,14 +143,7 @@ fn rotate(
     );
     make_state(rt, alloc, grid, pass, node)?;
     let node = Node::empty(alloc)?;
-    let node = not_stepped(
-        rt,
-        grid,
-        pass,
-        0,
-        node,
-        BoardStepWhy::Stocked { ready: 1 },
-    );
+    let node = not_stepped(rt, grid, pass, 0, node, BoardStepWhy::Stocked { ready: 1 });
     let node = not_stepped(rt, grid, pass, 3, node, BoardStepWhy::NoFactory);
     let claimed = grid.try_claim(pass, plan, node);
     let state = Some(0);

@@ -2,7 +2,6 @@
 //!
 //! The layout has two upright patches in the middle row of a grid of 3 rows and 5 columns, with cell 7 between them.
 
-ghost use Rattle.std.specs.Thread.{IsSync};
 ghost use Rattle.grid_lock.specs.Passes.{IsOf};
 ghost use Rattle.board_core.specs.Shows.{IsMadeFor};
 
@@ -121,11 +120,11 @@ fn both_look<R: Threads + Sync + Abort>(
     let (a, b) = join(
         rt,
         || -> (Pass, Look, bool)
-            requires { IsSync R.row × IsOf grid.now one.0 × IsMadeFor grid.now.opened one.1 }
+            requires { IsOf grid.now one.0 × IsMadeFor grid.now.opened one.1 }
             ensures { IsOf grid.entry.now result.0 × IsMadeFor grid.entry.now.opened result.1 }
         { looked(grid, one.0, 0, one.1) },
         || -> (Pass, Look, bool)
-            requires { IsSync R.row × IsOf grid.now two.0 × IsMadeFor grid.now.opened two.1 }
+            requires { IsOf grid.now two.0 × IsMadeFor grid.now.opened two.1 }
             ensures { IsOf grid.entry.now result.0 × IsMadeFor grid.entry.now.opened result.1 }
         { looked(grid, two.0, 1, two.1) },
     );
@@ -171,11 +170,11 @@ fn both_claim<R: Threads + Sync>(
     let (a, b) = join(
         rt,
         || -> (Pass, Answer)
-            requires { IsSync R.row × IsOf grid.now one.0 }
+            requires { IsOf grid.now one.0 }
             ensures { IsOf grid.entry.now result.0 }
         { tried(grid, one.0, one.1, one.2) },
         || -> (Pass, Answer)
-            requires { IsSync R.row × IsOf grid.now two.0 }
+            requires { IsOf grid.now two.0 }
             ensures { IsOf grid.entry.now result.0 }
         { tried(grid, two.0, two.1, two.2) },
     );

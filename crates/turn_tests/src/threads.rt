@@ -1,7 +1,6 @@
 //! Threads that push entries through one grid.
 
 ghost use Rattle.std.specs.Prelude.{◌≡◌, ◌≤◌, length, IfOk};
-ghost use Rattle.std.specs.Thread.{IsSync};
 ghost use Rattle.grid_lock.specs.Passes.{IsOf, IsSamePass};
 
 use crate::board::{ROW, Row, board_for};
@@ -26,21 +25,13 @@ fn stepped(alloc: Global, grid: &Grid, mut pass: Pass, tries: u32) -> (Pass, u32
     ensures same { IsSamePass pass result.0 }
 {
     let mut made = 0u32;
-    let mut spare = None;
     for _ in 0..tries {
-        let node = match spare {
-            Some(node) => node,
-            None => match Node::empty(alloc) {
-                Ok(node) => node,
-                Err(_) => break,
-            },
+        let Ok(node) = Node::empty(alloc) else {
+            break;
         };
         match grid.try_step(&mut pass, 0, node) {
-            Ok(_) => {
-                made = made.wrapping_add(1);
-                spare = None;
-            }
-            Err(TryStep::Busy { node }) => spare = Some(node),
+            Ok(_) => made = made.wrapping_add(1),
+            Err(TryStep::Busy { node: _ }) => {}
             Err(TryStep::Refused(_)) => break,
         }
     }
@@ -62,11 +53,11 @@ fn both_step<R: Threads + Sync>(
     join(
         rt,
         || -> (Pass, u32)
-            requires { IsSync R.row × IsOf grid.now one }
+            requires { IsOf grid.now one }
             ensures { IsOf grid.entry.now result.0 }
         { stepped(alloc, grid, one, tries) },
         || -> (Pass, u32)
-            requires { IsSync R.row × IsOf grid.now two }
+            requires { IsOf grid.now two }
             ensures { IsOf grid.entry.now result.0 }
         { stepped(alloc, grid, two, tries) },
     )
