@@ -1,0 +1,46 @@
+//! What the calls that try the board answer where they don't succeed.
+
+use board_core::{BoardStepRefused, ClaimRefused, DeliverRefused, Noted, ReleaseRefused};
+use node_log::Node;
+use patch_layout::Plan;
+
+/// Why there is no look.
+#[derive(Clone, Copy, Debug, PartialEq, Eq, Drop)]
+pub enum TryLook {
+    /// Another pass held the turn.
+    Busy,
+    /// There is no such product.
+    NoProduct,
+}
+
+/// Why there is no claim, with the plan and the node handed back.
+#[derive(Drop)]
+pub enum TryClaim {
+    /// Another pass held the turn.
+    Busy { plan: Plan, node: Node<Noted> },
+    Refused(ClaimRefused),
+}
+
+/// Why there is no delivery, with the node handed back.
+#[derive(Drop)]
+pub enum TryDeliver {
+    /// Another pass held the turn.
+    Busy { node: Node<Noted> },
+    Refused(DeliverRefused),
+}
+
+/// Why there is no release, with the node handed back.
+#[derive(Drop)]
+pub enum TryRelease {
+    /// Another pass held the turn.
+    Busy { node: Node<Noted> },
+    Refused(ReleaseRefused),
+}
+
+/// Why there is no step, with the node handed back.
+#[derive(Drop)]
+pub enum TryStep {
+    /// Another pass held the turn.
+    Busy { node: Node<Noted> },
+    Refused(BoardStepRefused),
+}
