@@ -1,0 +1,9 @@
+pub mod Masks
+pub mod Collapse
+pub mod Bounds
+pub mod Lowering
+pub mod Merging
+pub mod Rows
+pub mod Tracing
+pub mod Picking
+pub mod Shrinking

@@ -1,0 +1,5 @@
+pub mod Subset
+pub mod Table
+pub mod Growth
+pub mod Trace
+pub mod Pick
