@@ -1,13 +1,15 @@
 //! Each call of a grid, in one thread.
 
-ghost use Rattle.grid_lock.specs.Passes.{IsOf};
+ghost use Rattle.std.specs.Prelude.{◌≡◌, IfOk};
+ghost use Rattle.board_core.specs.Shows.{IsMadeFor};
+ghost use Rattle.grid_lock.specs.Passes.{IsOf, IsSamePass};
 
 use crate::board::{ROW, Row, board_for, look_for, plan_for};
-use board_core::{ClaimWhy, Claimed};
-use grid_lock::{CloseRefused, Grid, Pass, TryClaim, TryLook};
+use board_core::{Board, ClaimWhy, Claimed, Noted};
+use grid_lock::{Grid, Pass, TryClaim, TryLook};
 use node_log::Node;
 use patch_base::Memory;
-use patch_layout::Plan;
+use patch_layout::{Look, Plan};
 use source_model::{Given, Kind};
 use std::alloc::Global;
 use std::process::Abort;
@@ -18,7 +20,8 @@ static ROWS: [Row; 2] = [(b"+ZI", Kind::Rotation), (b"+ZI", Kind::Measure { bit:
 // How many steps of factory 0 were accepted, of so many tries.
 fn steps(alloc: Global, grid: &Grid, pass: &mut Pass, tries: u32) -> Result<u32, Memory>
     requires { IsOf grid.now pass.old }
-    ensures { IsOf grid.now pass.new }
+    ensures grid { IsOf grid.now pass.new }
+    ensures same { IsSamePass pass.old pass.new }
 {
     let mut made = 0u32;
     for _ in 0..tries {
@@ -39,7 +42,8 @@ fn carry_out(
     measurement: Plan,
 ) -> Result<(), Memory>
     requires { IsOf grid.now pass.old }
-    ensures { IsOf grid.now pass.new }
+    ensures grid { IsOf grid.now pass.new }
+    ensures same { IsSamePass pass.old pass.new }
 {
     let claimed = grid.try_claim(pass, rotation, Node::empty(alloc)?);
     let state = Some(0);
@@ -61,50 +65,108 @@ fn carry_out(
     Ok(())
 }
 
+// A look at the measurement, and none at a product that isn't there.
+fn look_twice(rt: &impl Abort, grid: &Grid, pass: &mut Pass, look: &mut Look)
+    requires grid { IsOf grid.now pass.old }
+    requires made { IsMadeFor grid.now.opened look.old }
+    ensures grid { IsOf grid.now pass.new }
+    ensures same { IsSamePass pass.old pass.new }
+{
+    let seen = grid.try_look(pass, 1, look);
+    assert_eq!(rt; seen, Ok(()));
+    assert_eq!(rt; (look.product, look.length, look.taken), (1, 14, None));
+    let none = grid.try_look(pass, 2, look);
+    assert_eq!(rt; none, Err(TryLook::NoProduct));
+}
+
+// The measurement is claimed after the rotation.
+fn claim_last(rt: &impl Abort, grid: &Grid, pass: &mut Pass, plan: Plan, node: Node<Noted>)
+    requires { IsOf grid.now pass.old }
+    ensures { IsOf grid.now pass.new }
+{
+    let claimed = grid.try_claim(pass, plan, node);
+    let state = None;
+    assert_eq!(rt; claimed.ok(), Some(Claimed { place: 14, state }));
+}
+
+// The board comes back only with all passes.
+fn close_at_last(
+    rt: &impl Abort,
+    alloc: Global,
+    grid: Grid,
+    zero: Pass,
+    one: Pass,
+) -> Result<Board, Memory>
+    requires passes { IsOf grid zero × IsOf grid one }
+    requires first { zero.view.number ≡ 0 }
+{
+    let refused = match grid.close(zero, Vec::new(alloc)) {
+        Ok(_) => panic!(rt; "a pass is missing"),
+        Err(refused) => refused,
+    };
+    assert_eq!(rt; refused.split, 1);
+    let mut others = refused.others;
+    others.push(one)?;
+    match refused.grid.close(refused.first, others) {
+        Ok(board) => Ok(board),
+        Err(_) => panic!(rt; "all passes"),
+    }
+}
+
+// A pass splits off another one, which has the next number.
+fn split_off(rt: &impl Abort, grid: &Grid, zero: &mut Pass) -> Result<Pass, Memory>
+    requires grid { IsOf grid.now zero.old }
+    requires first { (zero.old.view.number ≡ 0) × (zero.old.view.made ≡ 0) }
+    ensures grid { IsOf grid.now zero.new }
+    ensures first { zero.new.view.number ≡ 0 }
+    ensures new { IfOk result (IsOf grid.now) }
+{
+    let one = grid.split(zero)?;
+    assert_eq!(rt; (zero.number(), one.number()), (0, 1));
+    Ok(one)
+}
+
+// All calls in turn, and the pass that was split off.
+fn call_each(
+    rt: &impl Abort,
+    alloc: Global,
+    grid: &Grid,
+    zero: &mut Pass,
+    look: &mut Look,
+    plans: (Plan, Plan, Plan),
+) -> Result<Pass, Memory>
+    requires grid { IsOf grid.now zero.old }
+    requires first { (zero.old.view.number ≡ 0) × (zero.old.view.made ≡ 0) }
+    requires made { IsMadeFor grid.now.opened look.old }
+    ensures grid { IsOf grid.now zero.new }
+    ensures first { zero.new.view.number ≡ 0 }
+    ensures new { IfOk result (IsOf grid.now) }
+{
+    let (rotation, early, late) = plans;
+    let made = steps(alloc, grid, zero, 12)?;
+    assert_eq!(rt; made, 11);
+    carry_out(rt, alloc, grid, zero, rotation, early)?;
+    let length = grid.length(zero);
+    assert_eq!(rt; length, 14);
+    look_twice(rt, grid, zero, look);
+    let mut one = split_off(rt, grid, zero)?;
+    claim_last(rt, grid, &mut one, late, Node::empty(alloc)?);
+    Ok(one)
+}
+
 #[test]
 fn each_call_answers(rt: HostRuntime) -> Result<(), Fail> {
     let alloc = rt.alloc();
     let board = board_for(alloc, ROW, true, &ROWS, &[])?;
     let mut look = look_for(alloc, &board)?;
-    let rotation = plan_for(alloc, board.layout(), 0, b"+ZI", Some(0), &[1, 2, 3, 4, 5])?;
-    let early = plan_for(alloc, board.layout(), 1, b"+ZI", None, &[1])?;
-    let late = plan_for(alloc, board.layout(), 1, b"+ZI", None, &[1])?;
+    let plans = (
+        plan_for(alloc, board.layout(), 0, b"+ZI", Some(0), &[1, 2, 3, 4, 5])?,
+        plan_for(alloc, board.layout(), 1, b"+ZI", None, &[1])?,
+        plan_for(alloc, board.layout(), 1, b"+ZI", None, &[1])?,
+    );
     let (grid, mut zero) = Grid::open(alloc, board).ok().ok_or(Memory)?;
-    assert_eq!(rt; steps(alloc, &grid, &mut zero, 12)?, 11);
-    carry_out(&rt, alloc, &grid, &mut zero, rotation, early)?;
-    assert_eq!(rt; grid.length(&mut zero), 14);
-    assert_eq!(rt; grid.try_look(&mut zero, 1, &mut look), Ok(()));
-    assert_eq!(rt; (look.product, look.length, look.taken), (1, 14, None));
-    assert_eq!(rt;
-        grid.try_look(&mut zero, 2, &mut look),
-        Err(TryLook::NoProduct)
-    );
-    let mut one = grid.split(&mut zero)?;
-    assert_eq!(rt; (zero.number(), one.number()), (0, 1));
-    let claimed = grid.try_claim(&mut one, late, Node::empty(alloc)?);
-    assert_eq!(rt;
-        claimed.ok(),
-        Some(Claimed {
-            place: 14,
-            state: None
-        })
-    );
-    let Err(
-        CloseRefused {
-            split,
-            grid,
-            first,
-            mut others,
-        },
-    ) = grid.close(zero, Vec::new(alloc))
-    else {
-        panic!(rt; "a pass is missing");
-    };
-    assert_eq!(rt; split, 1);
-    others.push(one)?;
-    let Ok(board) = grid.close(first, others) else {
-        panic!(rt; "all passes");
-    };
+    let one = call_each(&rt, alloc, &grid, &mut zero, &mut look, plans)?;
+    let board = close_at_last(&rt, alloc, grid, zero, one)?;
     assert_eq!(rt; board.history().length(), 15);
     match board.history().last() {
         Some(noted) => assert_eq!(rt; noted.by, 1),
