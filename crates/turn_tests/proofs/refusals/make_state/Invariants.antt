@@ -1,5 +1,0 @@
-use Rattle.grid_lock.specs.Passes.{IsOf}
-use Rattle.turn_tests.proofs.refusals.make_state.Given as goal
-
-abbrev pub invariant-loop : goal.invariant-loop
-invariant-loop l = IsOf l.fn.grid l.pass
