@@ -81,7 +81,7 @@ pub(crate) fn give_back(core: &Core, seat: &mut PassSeat)
     core.store::<Free>(seat, TURN, FREE);
 }
 
-/// GainsEntry the entry of the board in hand, and gives the turn and the board back.
+/// Adds the entry of the board in hand to the history, and gives the turn and the board back.
 pub(crate) fn settle(core: &Core, seat: &mut PassSeat)
     requires core { (core.now.table_id.words ≡ 2) × (seat.old.table_id ≡ core.now.table_id) }
     requires hand { HasAdded seat.old.me }
