@@ -3,6 +3,8 @@ mod Circuits
 mod Layouts
 mod Tables
 mod Ports
-mod Keeping
+pub mod Keeping
 mod Wholes
 mod Once
+mod Boards
+mod AtHand

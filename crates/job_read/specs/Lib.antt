@@ -3,3 +3,7 @@ pub mod Stages
 pub mod Kept
 pub mod Jobs
 pub mod Faults
+pub mod Shelves
+pub mod Statuses
+pub mod Starts
+pub mod Made

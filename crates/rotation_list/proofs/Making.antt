@@ -1,5 +1,5 @@
 -- The circuit that is made from a number keeps the conditions of every call that takes a circuit.
-use Rattle.std.proofs.Common.{ℕ, zero, suc, ◌+◌, ◌*◌, ◌%◌, ◌==◌, ◌<◌, ◌≤◌, nat_lt, cond, Bool, true, false, List, [], ◌∷◌, ◌++◌, refl, sym, subst, arith, inl, append_assoc, append-nil, codes}
+use Rattle.std.proofs.Common.{ℕ, zero, suc, ◌+◌, ◌*◌, ◌%◌, ◌==◌, ◌<◌, ◌≤◌, nat_lt, cond, Bool, true, false, List, [], ◌∷◌, ◌++◌, length, All, refl, sym, subst, arith, inl, append_assoc, append-nil, codes}
 use Rattle.std.proofs.lemmas.List.Elements.{All-nil, All-cons, All-from_recursion}
 use Rattle.pauli_product.specs.declared.Letter.TheVariants.{X, Z}
 use Rattle.pauli_product.specs.Signed.{OfLength}
@@ -8,11 +8,12 @@ use Rattle.source_model.specs.declared.Angle.TheVariants.{Eighth, Quarter}
 use Rattle.source_model.specs.declared.Item.{Item}
 use Rattle.source_model.specs.declared.Register.{Register}
 use Rattle.source_model.specs.SourceRun.{axis_of}
-use Rattle.source_model.specs.Circuits.{BitsBelow, HiddenInOrder, IsOneLine, ReadsWhole, WellFormed}
+use Rattle.source_model.specs.Circuits.{BitsBelow, HiddenInOrder, IsOneLine, ReadsWhole, WellFormed, kinds}
+use Rattle.product_list.specs.Listable.{HasLetter}
 use Rattle.rotation_list.specs.Gates.{t_gate, s_gate, h_gate, controlled, measured}
 use Rattle.rotation_list.specs.Generated.{draw, operation, operations, measurements, big_items, big_circuit}
 use Rattle.rotation_list.proofs.OneLine.{IsOneLine-bytes}
-use Rattle.rotation_list.proofs.Programs.{AllFit, axes_fit, bits_fit, both_fit, controlled_fits, measured_fits, reads_fit, turn_fits}
+use Rattle.rotation_list.proofs.Programs.{AllFit, axes_fit, bits_fit, both_fit, controlled_fits, letters_fit, measured_fits, reads_fit, turn_fits}
 
 abbrev bits : List Register
 bits = record { name = codes "c"; first = 0; size = 8 } ∷ []
@@ -105,3 +106,61 @@ big_formed n = record {
   reads_fit = All-from_recursion (ReadsWhole bits) (big_items n) (reads_fit 8 8 bits (big_items n) (all_fit n));
   hidden_in_order = all_order n;
 }
+
+-- each axis has a letter other than I
+pub big_letters : (n : ℕ) → All HasLetter (big_circuit n).items
+unfolding big_circuit
+big_letters n = All-from_recursion HasLetter (big_items n) (letters_fit 8 8 bits (big_items n) (all_fit n))
+
+-- ---- how many products
+
+abbrev Few : ℕ → List Item → List Item → Type 0
+Few m is ks = length (kinds (is ++ ks)) ≤ m + length (kinds ks)
+
+either_few : (b : Bool) (m : ℕ) (is js ks : List Item) → Few m is ks → Few m js ks → Few m (cond b is js) ks
+either_few true m is js ks h k = h
+either_few false m is js ks h k = k
+
+operation_few : (a b c : ℕ) (ks : List Item) → Few 1 (operation a b c) ks
+unfolding operation
+operation_few a b c ks =
+    let u = b % 8 in
+    let v = (u + 1 + c % 7) % 8 in
+    let last = cond (a % 8 == 6) (controlled 8 X u v) (controlled 8 Z u v) in
+    let fourth = cond (a % 8 == 5) (s_gate 8 false u) last in
+    let third = cond (nat_lt (a % 8) 5) (h_gate 8 u) fourth in
+    let second = cond (a % 8 == 2) (t_gate 8 true u) third in
+    let none : length (kinds ks) ≤ 1 + length (kinds ks) = omega arith in
+    let one : suc (length (kinds ks)) ≤ 1 + length (kinds ks) = omega arith in
+    either_few (nat_lt (a % 8) 2) 1 (t_gate 8 false u) second ks one
+    (either_few (a % 8 == 2) 1 (t_gate 8 true u) third ks one
+    (either_few (nat_lt (a % 8) 5) 1 (h_gate 8 u) fourth ks none
+    (either_few (a % 8 == 5) 1 (s_gate 8 false u) last ks none
+    (either_few (a % 8 == 6) 1 (controlled 8 X u v) (controlled 8 Z u v) ks none none))))
+
+operations_few : (n k : ℕ) (ks : List Item) → Few k (operations n k) ks
+unfolding operations
+operations_few n zero ks = omega arith
+operations_few n (suc k) ks =
+    let next = operation (draw n (3 * k + 1)) (draw n (3 * k + 2)) (draw n (3 * k + 3)) in
+    let before = operations_few n k (next ++ ks) in
+    let one = operation_few (draw n (3 * k + 1)) (draw n (3 * k + 2)) (draw n (3 * k + 3)) ks in
+    let P : List Item → Type 0 = λ is. length (kinds is) ≤ suc k + length (kinds ks) in
+    subst P (sym (append_assoc (operations n k) next ks)) (omega (arith, before, one))
+
+measurements_few : (i : ℕ) (ks : List Item) → Few i (measurements i) ks
+unfolding measurements
+measurements_few zero ks = omega arith
+measurements_few (suc i) ks =
+    let before = measurements_few i (measured 8 i i ++ ks) in
+    let P : List Item → Type 0 = λ is. length (kinds is) ≤ suc i + length (kinds ks) in
+    subst P (sym (append_assoc (measurements i) (measured 8 i i) ks)) (omega (arith, before))
+
+pub big_few : (n : ℕ) → length (kinds (big_circuit n).items) ≤ n + 8
+unfolding big_circuit big_items
+big_few n =
+    let all = operations_few n n (measurements 8) in
+    let last = measurements_few 8 [] in
+    let P : List Item → Type 0 = λ is. length (kinds is) ≤ 8 + length (kinds []) in
+    let eight : length (kinds (measurements 8)) ≤ 8 + length (kinds []) = subst P (append-nil (measurements 8)) last in
+    omega (arith, all, eight)

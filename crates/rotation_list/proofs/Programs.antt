@@ -304,7 +304,7 @@ pub reads_fit : (n high : ℕ) (registers : List Register) (is : List Item) → 
 reads_fit n high registers [] h = tt
 reads_fit n high registers (i ∷ is) h = (h.0.whole, reads_fit n high registers is h.1)
 
-letters_fit : (n high : ℕ) (registers : List Register) (is : List Item) → AllFit n high registers is → ByRecursion HasLetter is
+pub letters_fit : (n high : ℕ) (registers : List Register) (is : List Item) → AllFit n high registers is → ByRecursion HasLetter is
 letters_fit n high registers [] h = tt
 letters_fit n high registers (i ∷ is) h = (h.0.letter, letters_fit n high registers is h.1)
 

@@ -1,28 +1,21 @@
 -- Accepted texts leave nothing but the outside to end a command early.
-use Rattle.std.proofs.Common.{◌≡◌, ℕ, ◌+◌, List, length, take, Option, Some, None, IfSome, IfErr, IsSome, Result, Ok, Err, refl, ap, sym, ◌∙◌, subst, arith}
+use Rattle.std.proofs.Common.{◌≡◌, ℕ, ◌+◌, List, take, Option, Some, None, IfSome, IfErr, IsSome, Result, Ok, Err, sym, ◌∙◌, subst, arith}
 use Rattle.std.specs.Prelude.{IsErrAnd}
 use Rattle.std.proofs.lemmas.Bool.{true≢false}
 use Rattle.std.proofs.lemmas.List.{take_all}
-use Rattle.magic_pool.specs.declared.Fail.{Fail}
 use Rattle.source_model.specs.declared.Circuit.{Circuit}
 use Rattle.patch_layout.specs.Grid.{Grid}
-use Rattle.board_core.specs.declared.Noted.{Noted}
-use Rattle.board_core.specs.Legal.{Job as BoardJob}
-use Rattle.board_core.specs.Position.{Position}
-use Rattle.schedule_text.specs.Text.{Version}
-use Rattle.history_replay.specs.Replay.{IsTextOf, asked}
-use Rattle.job_read.specs.declared.Job.{Job}
 use Rattle.job_read.specs.declared.fault.JobFault.{JobFault}
-use Rattle.job_read.specs.Kept.{IsJob}
 use Rattle.job_read.specs.Jobs as job_faults
-use Rattle.job_read.specs.Reading.{seen, IsNamed, IsTold}
+use Rattle.job_read.specs.Reading.{seen, IsNamed}
 use Rattle.job_read.specs.Stages.{LayoutStands}
+use Rattle.board_write.specs.declared.fault.WriteFault.{WriteFault}
+use Rattle.board_write.specs.declared.fault.WriteFault.TheVariants as write
 use Rattle.tool_top.specs.declared.fault.Fault.{Fault}
 use Rattle.tool_top.specs.declared.fault.Fault.TheVariants as fault
-use Rattle.tool_top.specs.Schedules.{asked_of, IsShort}
-use Rattle.tool_top.specs.Carried.{new_position, parts_job}
+use Rattle.tool_top.specs.Schedules.{IsShort}
+use Rattle.tool_top.specs.Faults.{fault_of_write}
 use Rattle.tool_top.specs.Told.{IsDone, IsOutside}
-use Rattle.tool_top.proofs.Brought.{same_job}
 
 -- ---- errors of known kinds
 pub done_job : (end : Result (Unit {0}) Fault) (f : JobFault) → IsErrAnd end (λ e. e ≡ fault.Job f) → job_faults.IsOutside f → IsDone end
@@ -32,6 +25,13 @@ done_job (Err e) f is h = subst IsOutside (sym is) h
 pub done_for : (end : Result (Unit {0}) Fault) (f : Fault) → IsErrAnd end (λ e. e ≡ f) → IsOutside f → IsDone end
 done_for (Ok done) f is h = absurd is
 done_for (Err e) f is h = subst IsOutside (sym is) h
+
+is_outside : (f : WriteFault) → IsOutside (fault_of_write f)
+is_outside write.Memory = tt
+is_outside write.Failed = tt
+
+pub done_write : (end : Result (Unit {0}) Fault) (f : WriteFault) → IsErrAnd end (λ e. e ≡ fault_of_write f) → IsDone end
+done_write end f is = done_for end (fault_of_write f) is (is_outside f)
 
 -- ---- a later state of the shelf
 pub told_later : (tells tells' : List ℕ → Option (List ℕ)) (l : List ℕ) → tells' l ≡ tells l → (IsNamed l → IsSome (tells l)) → IsNamed l → IsSome (tells' l)

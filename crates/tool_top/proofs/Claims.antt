@@ -1,5 +1,5 @@
 -- Products are claimed in ascending order where each claim is made in its turn.
-use Rattle.std.proofs.Common.{◌≡◌, ◌⊎◌, inl, inr, ℕ, zero, suc, ◌+◌, ◌<◌, ◌≤◌, Bool, true, false, cond, ◌==◌, ◌||◌, not, nat_lt, ltb, List, [], ◌∷◌, ◌++◌, length, take, position, Option, Some, None, IsSome, is_some, slice_get, slice_index, get_or, Contains, refl, ap, sym, ◌∙◌, subst, arith, eq-eqb, lt-ltb, append-nil}
+use Rattle.std.proofs.Common.{◌≡◌, ◌⊎◌, inl, inr, ℕ, zero, suc, ◌+◌, ◌<◌, ◌≤◌, Bool, true, false, cond, ◌||◌, not, nat_lt, ltb, List, [], ◌∷◌, ◌++◌, length, take, position, Option, Some, None, IsSome, is_some, slice_get, get_or, Contains, refl, ap, sym, ◌∙◌, subst, arith, eq-eqb, lt-ltb, append-nil}
 use Rattle.std.specs.List.{flat_map, position_or_len}
 use Rattle.std.specs.List.Sorted.{IsStrictlyIncreasing}
 use Rattle.std.proofs.Math.Seq.{take-suc, take-length}
@@ -8,7 +8,7 @@ use Rattle.std.proofs.lemmas.Bool.Decides.{nat_tests}
 use Rattle.std.proofs.lemmas.Grind.{flat_map-append}
 use Rattle.std.proofs.lemmas.List.{get_or_append_left, get_or_push, length-append}
 use Rattle.std.proofs.lemmas.List.Elements.{Contains-append_cases, Contains-get_or}
-use Rattle.std.proofs.lemmas.Option.{none-some, slice_get-get_or}
+use Rattle.std.proofs.lemmas.Option.{slice_get-get_or}
 use Rattle.pauli_product.specs.Signed.{Signed}
 use Rattle.patch_layout.specs.Openness.{Least}
 use Rattle.board_core.specs.declared.Entry.{Entry}

@@ -1,10 +1,8 @@
-mod SameBits
-mod Scheduled
 mod Claims
+mod Layering
+mod Layered
 mod Brought
-mod Boards
 mod Told
-mod Sinks
 mod Ending
 mod Replaying
 mod Accepting

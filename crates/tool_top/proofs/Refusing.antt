@@ -15,7 +15,7 @@ use Rattle.job_read.specs.Reading.{Seen, Reading, seen, IsNamed, IsTold}
 use Rattle.job_read.specs.Stages.{CircuitStands, CircuitRefused, LayoutRefused}
 use Rattle.tool_top.specs.declared.fault.Fault.{Fault}
 use Rattle.tool_top.specs.declared.fault.Fault.TheVariants as fault
-use Rattle.tool_top.specs.Outside.{Shelved, seen_on, job_on}
+use Rattle.job_read.specs.Shelves.{Shelved, seen_on, job_on}
 use Rattle.tool_top.specs.Schedules.{ScheduleLong, ScheduleBad}
 use Rattle.tool_top.specs.Told.{EndsBy, IsOutside, RefusesCircuit, RefusesJob, RefusesLayout, RefusesSchedule}
 

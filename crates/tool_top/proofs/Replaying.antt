@@ -3,34 +3,34 @@ use Rattle.std.proofs.Common.{◌≡◌, ℕ, ◌+◌, ◌<◌, ◌≤◌, List,
 use Rattle.source_model.specs.declared.Circuit.{Circuit}
 use Rattle.source_model.specs.declared.Given.{Given}
 use Rattle.source_model.specs.Circuits.{RightKinds}
-use Rattle.source_model.specs.SourceRun.{bit_after}
-use Rattle.magic_pool.specs.declared.Fail.{Fail}
 use Rattle.board_core.specs.declared.Noted.{Noted}
-use Rattle.board_core.specs.History.{entries}
-use Rattle.board_core.specs.Laws.{LegalAndCompleteIsTheHeadline}
 use Rattle.board_core.specs.Legal.{Job as BoardJob, Complete}
 use Rattle.board_core.specs.Position.{Position, past, with_history}
-use Rattle.schedule_text.specs.Text.{text_of, two}
-use Rattle.schedule_text.specs.Laws.{LegalEntriesStand}
 use Rattle.slice_write.specs.Slices.{sliced}
 use Rattle.slice_write.specs.Pictures.{slices_text}
+use Rattle.finish_run.specs.Next.{Meeting}
 use Rattle.history_replay.specs.Replay.{IsTextOf, FirstBad, asked}
 use Rattle.job_read.specs.declared.Job.{Job}
 use Rattle.job_read.specs.Kept.{IsJob}
+use Rattle.job_read.specs.Starts.{board_job}
+use Rattle.board_write.specs.declared.fault.WriteFault.{WriteFault}
+use Rattle.board_write.specs.Boards.{IsComplete, WritesText, schedule_of}
+use Rattle.board_write.specs.Laws.{CompleteBoardsAreSchedules}
 use Rattle.job_read.specs.Jobs.{StandsForJob}
 use Rattle.job_read.specs.Reading.{reading}
-use Rattle.tool_words.specs.Commands.{serial, slices, migrate}
+use Rattle.tool_words.specs.Commands.{Tool, slices, migrate}
 use Rattle.tool_top.specs.declared.fault.Fault.{Fault}
 use Rattle.tool_top.specs.declared.fault.Fault.TheVariants as fault
 use Rattle.tool_top.specs.declared.schedule.Replayed.{Replayed}
-use Rattle.tool_top.specs.Outside.{Shelved, Writing, shelved, job_on}
-use Rattle.tool_top.specs.Serial.{board_job}
+use Rattle.fault_lines.specs.Sinks.{Writing}
+use Rattle.job_read.specs.Shelves.{Shelved, shelved, job_on, OnJob}
 use Rattle.tool_top.specs.Schedules.{asked_of, IsShort, slices_shown, migrated}
-use Rattle.tool_top.specs.Carried.{IsBroughtToEnd, IsComplete, WritesText, new_position, parts_job}
+use Rattle.tool_top.specs.Carried.{IsBroughtToEnd}
 use Rattle.tool_top.specs.Replayed.{IsReplayed, IsReplayedOn, StopsReading, StopsReplaying}
-use Rattle.tool_top.specs.Ends.{Ends, OnSchedule}
-use Rattle.tool_top.proofs.Brought.{serial_schedule, same_job}
-use Rattle.tool_top.proofs.Ending.{written_ends, stands_later}
+use Rattle.tool_top.specs.Serial.{IsScheduleBy}
+use Rattle.tool_top.specs.Ends.{OnSchedule, Outputs}
+use Rattle.tool_top.proofs.Brought.{schedule_by}
+use Rattle.tool_top.proofs.Ending.{Attempt, stands_later}
 use Rattle.tool_top.proofs.Told.{told_stands, told_long}
 
 -- ---- reading
@@ -76,34 +76,39 @@ err_map (Err e) P Q f h = f e h
 -- ---- what is written
 
 -- a board's schedule, as one of the job's circuit
-abbrev ScheduleOf : Writing → Result (Unit {0}) Fault → List Noted → List Given → Circuit → Type 0
-ScheduleOf w end h table c = WritesText w (text_of two h c.registers (bit_after c.items table)) end
+abbrev ScheduleOf : Writing → Result (Unit {0}) WriteFault → List Noted → List Given → Circuit → Type 0
+ScheduleOf w did h table c = WritesText w (schedule_of c table h) did
 
-writes_of : (w : Writing) (end : Result (Unit {0}) Fault) (job : Job) (c : Circuit) (b : Position) → IsJob job → c ≡ job.circuit → b.job ≡ board_job job → Complete (board_job job) (past b) job.outcomes.given → ((table : List Given) → IsComplete c b table → ScheduleOf w end b.history table c) → ScheduleOf w end b.history job.outcomes.given job.circuit
-writes_of w end job c b kept same is complete writes =
-    subst (ScheduleOf w end b.history job.outcomes.given) same
+writes_of : (w : Writing) (did : Result (Unit {0}) WriteFault) (job : Job) (c : Circuit) (b : Position) → IsJob job → c ≡ job.circuit → b.job ≡ board_job job → Complete (board_job job) (past b) job.outcomes.given → ((table : List Given) → IsComplete c b table → ScheduleOf w did b.history table c) → ScheduleOf w did b.history job.outcomes.given job.circuit
+writes_of w did job c b kept same is complete writes =
+    subst (ScheduleOf w did b.history job.outcomes.given) same
     (writes job.outcomes.given (record {
       kinds = subst (λ (d : Circuit). RightKinds d.items job.outcomes.given) (sym same) kept.right_kinds;
       complete = subst (λ (j : BoardJob). Complete j (past b) job.outcomes.given) (sym is) complete;
     }))
 
-pub serial_ends : (r : Shelved) (w : Writing) (c l o : List ℕ) (job : Job) (circuit : Circuit) (b : Position) (end : Result (Unit {0}) Fault) → LegalAndCompleteIsTheHeadline → LegalEntriesStand → StandsForJob (job_on r c l o) job → IsJob job → circuit ≡ job.circuit → IsBroughtToEnd job b → ((table : List Given) → IsComplete circuit b table → ScheduleOf w end b.history table circuit) → Ends r w (serial c l o) end
-serial_ends r w c l o job circuit b end law entries_stand stands kept same brought writes =
-    written_ends r w (serial c l o) (text_of two b.history job.circuit.registers (bit_after job.circuit.items job.outcomes.given)) end
-    (job, stands, serial_schedule law entries_stand job b kept brought)
-    (writes_of w end job circuit b kept same brought.job_is brought.complete writes)
+-- a command that writes schedules of one kind, `serial` or `least`
+pub scheduled : (M : Meeting) (r : Shelved) (w : Writing) (c l o : List ℕ) (t : Tool) (job : Job) (circuit : Circuit) (b : Position) (did : Result (Unit {0}) WriteFault) → ((text : List ℕ) → OnJob r c l o (λ j. IsScheduleBy M j text) → Outputs r t text) → CompleteBoardsAreSchedules → StandsForJob (job_on r c l o) job → IsJob job → circuit ≡ job.circuit → IsBroughtToEnd M job b → ((table : List Given) → IsComplete circuit b table → ScheduleOf w did b.history table circuit) → Attempt r w t did
+scheduled M r w c l o t job circuit b did outputs law stands kept same brought writes =
+    let text = schedule_of job.circuit job.outcomes.given b.history in (
+      text,
+      outputs text (job, stands, schedule_by M law job b kept brought),
+      writes_of w did job circuit b kept same brought.job_is brought.complete writes,
+    )
 
 on_schedule : (r : Shelved) (c l o s : List ℕ) (x : Replayed) (P : Job → List Noted → Type 0) → (i : IsReplayed r c l o s x) → P i.job x.board.history → OnSchedule r c l o s P
 on_schedule r c l o s x P i p = (i.job, i.stands, (i.version, x.board.history, i.schedule, p))
 
-pub migrate_ends : (r : Shelved) (w : Writing) (c l o s : List ℕ) (x : Replayed) (end : Result (Unit {0}) Fault) → IsReplayed r c l o s x → ((table : List Given) → IsComplete x.circuit x.board table → ScheduleOf w end x.board.history table x.circuit) → Ends r w (migrate c l o s) end
-migrate_ends r w c l o s x end i writes =
-    written_ends r w (migrate c l o s) (migrated i.job x.board.history) end
-    (on_schedule r c l o s x (λ job h. migrated i.job x.board.history ≡ migrated job h) i refl)
-    (writes_of w end i.job x.circuit x.board i.kept i.circuit (ap (λ (p : Position). p.job) i.board) i.complete writes)
+pub migrate_attempt : (r : Shelved) (w : Writing) (c l o s : List ℕ) (x : Replayed) (did : Result (Unit {0}) WriteFault) → IsReplayed r c l o s x → ((table : List Given) → IsComplete x.circuit x.board table → ScheduleOf w did x.board.history table x.circuit) → Attempt r w (migrate c l o s) did
+migrate_attempt r w c l o s x did i writes = (
+  migrated i.job x.board.history,
+  on_schedule r c l o s x (λ job h. migrated i.job x.board.history ≡ migrated job h) i refl,
+  writes_of w did i.job x.circuit x.board i.kept i.circuit (ap (λ (p : Position). p.job) i.board) i.complete writes,
+)
 
-pub slices_ends : (r : Shelved) (w : Writing) (c l o s : List ℕ) (x : Replayed) (end : Result (Unit {0}) Fault) → IsReplayed r c l o s x → WritesText w (slices_text x.board.job.grid (sliced x.board.job (past x.board))) end → Ends r w (slices c l o s) end
-slices_ends r w c l o s x end i writes =
-    written_ends r w (slices c l o s) (slices_shown i.job x.board.history) end
-    (on_schedule r c l o s x (λ job h. slices_shown i.job x.board.history ≡ slices_shown job h) i refl)
-    (subst (λ (j : BoardJob). WritesText w (slices_text j.grid (sliced j (past x.board))) end) (ap (λ (p : Position). p.job) i.board) writes)
+pub slices_attempt : (r : Shelved) (w : Writing) (c l o s : List ℕ) (x : Replayed) (did : Result (Unit {0}) WriteFault) → IsReplayed r c l o s x → WritesText w (slices_text x.board.job.grid (sliced x.board.job (past x.board))) did → Attempt r w (slices c l o s) did
+slices_attempt r w c l o s x did i writes = (
+  slices_shown i.job x.board.history,
+  on_schedule r c l o s x (λ job h. slices_shown i.job x.board.history ≡ slices_shown job h) i refl,
+  subst (λ (j : BoardJob). WritesText w (slices_text j.grid (sliced j (past x.board))) did) (ap (λ (p : Position). p.job) i.board) writes,
+)

@@ -1,5 +1,5 @@
 -- What is read of a text, up to one byte past a limit, is what the text is, where it is no longer than the limit.
-use Rattle.std.proofs.Common.{◌≡◌, ℕ, ◌+◌, ◌<◌, ◌≤◌, List, length, take, Option, Some, None, IfSome, sym, ◌∙◌, ap, subst, arith}
+use Rattle.std.proofs.Common.{◌≡◌, ℕ, ◌+◌, ◌<◌, ◌≤◌, List, length, take, Option, Some, None, IfSome, ◌∙◌, subst, arith}
 use Rattle.std.proofs.lemmas.List.{length-take, take_all}
 
 whole : (n : ℕ) (text bytes : List ℕ) → bytes ≡ take (n + 1) text → length text ≤ n → bytes ≡ text

@@ -1,36 +1,23 @@
 -- How each command ends: what it writes, or why it writes nothing.
 use Rattle.std.specs.Prelude.{◌≡◌, ◌⊎◌, ℕ, List, codes, Result, Ok, Err}
-use Rattle.source_model.specs.declared.Circuit.{Circuit}
-use Rattle.patch_layout.specs.Grid.{Grid}
 use Rattle.board_core.specs.declared.Noted.{Noted}
 use Rattle.schedule_text.specs.Text.{Version}
 use Rattle.job_read.specs.declared.Job.{Job}
 use Rattle.job_read.specs.declared.fault.JobFault.{JobFault}
 use Rattle.job_read.specs.Reading.{Seen, Failed}
-use Rattle.job_read.specs.Stages.{CircuitStands, LayoutStands}
-use Rattle.job_read.specs.Jobs.{StandsForJob, Because, CircuitStops, LayoutStops}
+use Rattle.job_read.specs.Jobs.{Because, CircuitStops, LayoutStops}
 use Rattle.tool_words.specs.Commands.{Tool, serial, lower, layout, verify, slices, migrate, layers, least, tool_words}
 use Rattle.tool_top.specs.declared.fault.Fault.{Fault}
 use Rattle.tool_top.specs.declared.fault.Fault.TheVariants as fault
-use Rattle.tool_top.specs.Outside.{Shelved, Writing, seen_on, job_on, Untouched, Took, TookPart, Said}
-use Rattle.tool_top.specs.Serial.{IsSerialSchedule}
+use Rattle.fault_lines.specs.Sinks.{Writing, Untouched, Took, TookPart, Said}
+use Rattle.job_read.specs.Shelves.{Shelved, seen_on, job_on, OnCircuit, OnLayout, OnJob}
+use Rattle.tool_top.specs.Serial.{IsSerialSchedule, IsLeastSchedule}
 use Rattle.tool_top.specs.Lower.{lowered, shown}
+use Rattle.tool_top.specs.Layers.{AreLayersOf}
 use Rattle.tool_top.specs.Schedules.{ScheduleStands, ScheduleLong, ScheduleBad, verdict, slices_shown, migrated}
 use Rattle.tool_top.specs.Faults.{status_of, fault_line}
 
 -- ---- what is read
-
--- the circuit is accepted, and of it this holds
-abbrev pub OnCircuit : Shelved → List ℕ → (Circuit → Type 0) → Type 0
-OnCircuit r c P = (circuit : Circuit) × CircuitStands (seen_on r c) circuit × P circuit
-
--- the circuit and the layout are accepted, and of the layout this holds
-abbrev pub OnLayout : Shelved → List ℕ → List ℕ → (Grid → Type 0) → Type 0
-OnLayout r c l P = OnCircuit r c (λ circuit. (grid : Grid) × LayoutStands l (seen_on r l) circuit grid × P grid)
-
--- the job is accepted, and of it this holds
-abbrev pub OnJob : Shelved → List ℕ → List ℕ → List ℕ → (Job → Type 0) → Type 0
-OnJob r c l o P = (job : Job) × StandsForJob (job_on r c l o) job × P job
 
 -- the job and the schedule are accepted, and of them this holds
 abbrev pub OnSchedule : Shelved → List ℕ → List ℕ → List ℕ → List ℕ → (Job → List Noted → Type 0) → Type 0
@@ -46,8 +33,8 @@ Outputs r (layout c l) text = OnLayout r c l (λ grid. text ≡ shown grid)
 Outputs r (verify c l o s) text = OnSchedule r c l o s (λ job h. text ≡ verdict)
 Outputs r (slices c l o s) text = OnSchedule r c l o s (λ job h. text ≡ slices_shown job h)
 Outputs r (migrate c l o s) text = OnSchedule r c l o s (λ job h. text ≡ migrated job h)
-Outputs r (layers c) text = ⊥
-Outputs r (least c l o) text = ⊥
+Outputs r (layers c) text = OnCircuit r c (λ circuit. AreLayersOf circuit text)
+Outputs r (least c l o) text = OnJob r c l o (λ job. IsLeastSchedule job text)
 
 -- ---- why nothing is written
 
@@ -59,8 +46,8 @@ StopsAtJob r (layout c l) f = CircuitStops (seen_on r c) f ⊎ OnCircuit r c (λ
 StopsAtJob r (verify c l o s) f = Because (job_on r c l o) f
 StopsAtJob r (slices c l o s) f = Because (job_on r c l o) f
 StopsAtJob r (migrate c l o s) f = Because (job_on r c l o) f
-StopsAtJob r (layers c) f = ⊥
-StopsAtJob r (least c l o) f = ⊥
+StopsAtJob r (layers c) f = CircuitStops (seen_on r c) f
+StopsAtJob r (least c l o) f = Because (job_on r c l o) f
 
 -- the job is accepted, and of the schedule's text this holds
 abbrev pub StopsAtSchedule : Shelved → Tool → (Seen → Job → Type 0) → Type 0
@@ -99,15 +86,9 @@ abbrev pub SaysWhy : Writing → Tool → Result (Unit {0}) Fault → Type 0
 SaysWhy e t (Ok done) = Untouched e
 SaysWhy e t (Err f) = Said e (fault_line t f)
 
--- the commands that are built
-abbrev pub IsBuilt : Tool → Type 0
-IsBuilt (layers c) = ⊥
-IsBuilt (least c l o) = ⊥
-IsBuilt _ = Unit {0}
-
 -- the words aren't those of a command: status 2, and nothing is written but the line
 pub record RefusesWords (words : List (List ℕ)) (w e : Writing) (status : ℕ) : Type 0 where
-  pub unlisted : (t : Tool) → IsBuilt t → words ≡ tool_words t → ⊥
+  pub unlisted : (t : Tool) → words ≡ tool_words t → ⊥
   pub ended : status ≡ 2
   pub silent : Untouched w
   pub said : Said e (codes "words\n")
@@ -115,7 +96,6 @@ pub record RefusesWords (words : List (List ℕ)) (w e : Writing) (status : ℕ)
 -- the words are those of a command, which was carried out as far as its end
 pub record CarriesOut (words : List (List ℕ)) (r : Shelved) (w e : Writing) (status : ℕ) : Type 0 where
   pub tool : Tool
-  pub built : IsBuilt tool
   pub listed : words ≡ tool_words tool
   pub end : Result (Unit {0}) Fault
   pub ends : Ends r w tool end

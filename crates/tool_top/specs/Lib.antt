@@ -1,7 +1,7 @@
-pub mod Outside
 pub mod Faults
 pub mod Serial
 pub mod Lower
+pub mod Layers
 pub mod Schedules
 pub mod Ends
 pub mod Told

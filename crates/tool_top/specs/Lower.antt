@@ -1,5 +1,5 @@
 -- What `lower` and `layout` write.
-use Rattle.std.specs.Prelude.{◌≡◌, ℕ, List, ◌++◌, codes, decimal}
+use Rattle.std.specs.Prelude.{ℕ, List, ◌++◌, codes, decimal}
 use Rattle.source_model.specs.declared.Circuit.{Circuit}
 use Rattle.source_model.specs.Statics.{statics}
 use Rattle.rotation_list.specs.Printed.{list_text}

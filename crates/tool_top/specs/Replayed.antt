@@ -6,17 +6,15 @@ use Rattle.board_core.specs.Position.{with_history}
 use Rattle.schedule_text.specs.Text.{Version}
 use Rattle.history_replay.specs.Replay.{IsTextOf, FirstBad}
 use Rattle.job_read.specs.declared.Job.{Job}
+use Rattle.job_read.specs.Starts.{board_job, new_position}
 use Rattle.job_read.specs.Kept.{IsJob}
 use Rattle.job_read.specs.Reading.{Failed}
 use Rattle.job_read.specs.Jobs.{StandsForJob, Because}
 use Rattle.tool_top.specs.declared.fault.Fault.{Fault}
 use Rattle.tool_top.specs.declared.fault.Fault.TheVariants as fault
 use Rattle.tool_top.specs.declared.schedule.Replayed.{Replayed}
-use Rattle.tool_top.specs.Outside.{Shelved, seen_on, job_on}
-use Rattle.tool_top.specs.Serial.{board_job}
+use Rattle.job_read.specs.Shelves.{Shelved, seen_on, job_on, OnJob}
 use Rattle.tool_top.specs.Schedules.{asked_of, IsShort, ScheduleStands, ScheduleLong, ScheduleBad}
-use Rattle.tool_top.specs.Carried.{new_position}
-use Rattle.tool_top.specs.Ends.{OnJob}
 
 -- the board has a history of which this is the text
 pub record IsReplayedOn (job : Job) (text : List ℕ) (x : Replayed) : Type 0 where

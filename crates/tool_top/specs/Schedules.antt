@@ -1,5 +1,5 @@
 -- What is read of a schedule's text against a job, and what the commands that read one write.
-use Rattle.std.specs.Prelude.{◌≡◌, ℕ, ◌<◌, ◌≤◌, List, length, codes, IfSome}
+use Rattle.std.specs.Prelude.{ℕ, ◌<◌, ◌≤◌, List, length, codes, IfSome}
 use Rattle.source_model.specs.SourceRun.{bit_after}
 use Rattle.board_core.specs.declared.Noted.{Noted}
 use Rattle.board_core.specs.History.{entries}
@@ -8,8 +8,8 @@ use Rattle.slice_write.specs.Slices.{sliced}
 use Rattle.slice_write.specs.Pictures.{slices_text}
 use Rattle.history_replay.specs.Replay.{Question, IsTextOf, FirstBad, asked}
 use Rattle.job_read.specs.declared.Job.{Job}
+use Rattle.job_read.specs.Starts.{board_job}
 use Rattle.job_read.specs.Reading.{Seen}
-use Rattle.tool_top.specs.Serial.{board_job}
 
 -- a legal complete history of the job, with the bits that its outcomes leave
 abbrev pub asked_of : Job → Question

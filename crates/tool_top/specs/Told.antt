@@ -11,10 +11,10 @@ use Rattle.job_read.specs.Jobs.{StandsForJob, TellsUpTo, TellsAll}
 use Rattle.tool_words.specs.Commands.{Tool, serial, lower, layout, verify, slices, migrate, layers, least}
 use Rattle.tool_top.specs.declared.fault.Fault.{Fault}
 use Rattle.tool_top.specs.declared.fault.Fault.TheVariants as fault
-use Rattle.tool_top.specs.Outside.{Shelved, Writing, seen_on, job_on, Said}
+use Rattle.fault_lines.specs.Sinks.{Writing, Said}
+use Rattle.job_read.specs.Shelves.{Shelved, seen_on, job_on, OnCircuit, OnLayout, OnJob}
 use Rattle.tool_top.specs.Schedules.{ScheduleStands, ScheduleLong, ScheduleBad}
 use Rattle.tool_top.specs.Faults.{status_of, fault_line}
-use Rattle.tool_top.specs.Ends.{OnCircuit, OnLayout, OnJob}
 
 -- the shelf or the output failed, or memory is wanting
 abbrev pub IsOutside : Fault → Type 0
@@ -40,17 +40,13 @@ Accepts r (layout c l) = IsTold (seen_on r c) × (IsNamed l → IsTold (seen_on 
 Accepts r (verify c l o s) = AcceptsSchedule r c l o s
 Accepts r (slices c l o s) = AcceptsSchedule r c l o s
 Accepts r (migrate c l o s) = AcceptsSchedule r c l o s
-Accepts r (layers c) = ⊥
-Accepts r (least c l o) = ⊥
+Accepts r (layers c) = IsTold (seen_on r c) × OnCircuit r c (λ circuit. Unit {0})
+Accepts r (least c l o) = (job : Job) × TellsAll (job_on r c l o) × StandsForJob (job_on r c l o) job
 
 -- all was done, or the outside is the cause that it wasn't
 abbrev pub IsDone : Result (Unit {0}) Fault → Type 0
 IsDone (Ok done) = Unit {0}
 IsDone (Err f) = IsOutside f
-
--- 0, or a status that the outside is the cause of: 7, 8 or 9
-abbrev pub IsDoneStatus : ℕ → Type 0
-IsDoneStatus status = (status ≡ 0) ⊎ (7 ≤ status)
 
 -- ---- refused texts
 
@@ -83,8 +79,8 @@ Refuses r (layout c l) f = RefusesLayout r c l f
 Refuses r (verify c l o s) f = RefusesSchedule r c l o s f
 Refuses r (slices c l o s) f = RefusesSchedule r c l o s f
 Refuses r (migrate c l o s) f = RefusesSchedule r c l o s f
-Refuses r (layers c) f = ⊥
-Refuses r (least c l o) f = ⊥
+Refuses r (layers c) f = RefusesCircuit (seen_on r c) f
+Refuses r (least c l o) f = RefusesJob (job_on r c l o) f
 
 -- it ended with this fault, or with one of the outside
 abbrev pub EndsBy : {A : Type 0} → Fault → Result A Fault → Type 0

@@ -1,13 +1,10 @@
 //! Why a command ends before its output is written.
 
 ghost use Rattle.std.specs.Prelude.{◌≡◌};
-ghost use Rattle.tool_top.specs.Faults.{status_of};
 
+use board_write::WriteFault;
 use job_read::JobFault;
-use outcome_table::OutcomeFault;
 use patch_base::{Failed, Memory};
-use patch_layout::LayoutFault;
-use qasm_lex::CircuitFault;
 
 /// Why a command ends before all of its output is written.
 #[derive(Clone, Copy, Debug, PartialEq, Eq)]
@@ -26,37 +23,6 @@ pub enum Fault {
     Memory,
 }
 
-impl Fault {
-    /// The status that the program ends with.
-    pub fn status(self) -> u8
-        ensures { result ≡ status_of self }
-    {
-        match self {
-            Fault::Job(fault) => job_status(fault),
-            Fault::ScheduleTooLong | Fault::ScheduleIllegal { line: _ } => 6,
-            Fault::ScheduleUnread => 7,
-            Fault::Unwritten => 8,
-            Fault::Memory => 9,
-        }
-    }
-}
-
-// Want of memory has one status, whoever met it.
-fn job_status(fault: JobFault) -> u8
-    ensures { result ≡ status_of (Fault.Job fault) }
-{
-    match fault {
-        JobFault::Read { which: _ } => 7,
-        JobFault::Circuit(CircuitFault::At { line: _, kind: _ }) => 3,
-        JobFault::Layout(LayoutFault::Memory) => 9,
-        JobFault::Layout(_) => 4,
-        JobFault::Outcomes(OutcomeFault::Memory) => 9,
-        JobFault::Outcomes(_) => 5,
-        JobFault::Circuit(CircuitFault::Memory) => 9,
-        JobFault::Memory => 9,
-    }
-}
-
 impl From<JobFault> for Fault {
     ghost use Rattle.std.specs.Prelude.{◌≡◌};
     ghost use Rattle.tool_top.specs.declared.fault.Fault.TheVariants as fault;
@@ -65,6 +31,20 @@ impl From<JobFault> for Fault {
 
     fn from(fault: JobFault) -> Fault {
         Fault::Job(fault)
+    }
+}
+
+impl From<WriteFault> for Fault {
+    ghost use Rattle.std.specs.Prelude.{◌≡◌};
+    ghost use Rattle.tool_top.specs.Faults.{fault_of_write};
+
+    ghost from_gives = { λ f e. e ≡ fault_of_write f };
+
+    fn from(fault: WriteFault) -> Fault {
+        match fault {
+            WriteFault::Memory => Fault::Memory,
+            WriteFault::Failed => Fault::Unwritten,
+        }
     }
 }
 

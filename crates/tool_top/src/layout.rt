@@ -4,13 +4,14 @@ ghost use Rattle.std.specs.Prelude.{◌≡◌, ℕ, ◌≤◌, List, OnOk, OnErr
 ghost use Rattle.patch_base.specs.Outside.{Rose, Grew, AppendsPrefix};
 ghost use Rattle.tool_words.specs.Commands as tool;
 ghost use Rattle.tool_top.specs.declared.fault.Fault.{Fault as Fault_of};
-ghost use Rattle.tool_top.specs.Outside.{shelved, writing};
+ghost use Rattle.fault_lines.specs.Sinks.{writing};
+ghost use Rattle.job_read.specs.Shelves.{shelved};
 ghost use Rattle.tool_top.specs.Lower.{shown};
 ghost use Rattle.tool_top.specs.Ends.{Ends};
 ghost use Rattle.tool_top.specs.Told.{Accepts, EndsBy, IsDone, Refuses};
 
 use crate::fault::Fault;
-use crate::saying::write_number;
+use fault_lines::write_number;
 use job_read::{load_circuit, load_layout};
 use patch_base::{Failed, Shelf, Sink, write_all};
 use patch_layout::Layout;

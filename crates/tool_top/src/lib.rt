@@ -1,9 +1,10 @@
 //! What `patchtool` does.
 #![tactic(auto)]
 
-mod board;
 mod fault;
+mod layers;
 mod layout;
+mod least;
 mod lower;
 mod migrate;
 mod saying;

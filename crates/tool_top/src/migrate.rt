@@ -3,13 +3,14 @@
 ghost use Rattle.std.specs.Prelude.{◌≡◌, ℕ, ◌≤◌, List};
 ghost use Rattle.tool_words.specs.Commands as tool;
 ghost use Rattle.tool_top.specs.declared.fault.Fault.{Fault as Fault_of};
-ghost use Rattle.tool_top.specs.Outside.{shelved, writing};
+ghost use Rattle.fault_lines.specs.Sinks.{writing};
+ghost use Rattle.job_read.specs.Shelves.{shelved};
 ghost use Rattle.tool_top.specs.Ends.{Ends};
 ghost use Rattle.tool_top.specs.Told.{Accepts, EndsBy, IsDone, Refuses};
 
 use crate::fault::Fault;
 use crate::schedule::{Names, read_schedule};
-use crate::serial::write_board;
+use board_write::write_board;
 use patch_base::{Shelf, Sink};
 use std::alloc::Global;
 
@@ -32,5 +33,6 @@ pub fn migrate_schedule<S: Shelf, O: Sink>(
         (f : Fault_of) → Refuses r (tool.migrate names.entry.circuit.now names.entry.layout.now names.entry.outcomes.now names.entry.schedule.now) f → EndsBy f result }
 {
     let replayed = read_schedule(alloc, names, shelf)?;
-    write_board(alloc, &replayed.circuit, &replayed.board, out)
+    write_board(alloc, &replayed.circuit, &replayed.board, out)?;
+    Ok(())
 }

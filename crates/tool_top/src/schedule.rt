@@ -6,16 +6,15 @@ ghost use Rattle.schedule_text.specs.Text.{Version};
 ghost use Rattle.history_replay.specs.Replay.{IsTextOf, FirstBad};
 ghost use Rattle.job_read.specs.Kept.{IsJob};
 ghost use Rattle.tool_top.specs.declared.fault.Fault.{Fault as Fault_of};
-ghost use Rattle.tool_top.specs.Outside.{shelved};
+ghost use Rattle.job_read.specs.Shelves.{shelved};
 ghost use Rattle.tool_top.specs.Schedules.{IsShort, asked_of};
 ghost use Rattle.tool_top.specs.Told.{AcceptsSchedule, EndsBy, IsOutside, RefusesSchedule};
 ghost use Rattle.tool_top.specs.Replayed.{IsReplayed, IsReplayedOn, StopsReading, StopsReplaying};
 
-use crate::board::new_board;
 use crate::fault::Fault;
 use board_core::Board;
 use history_replay::{Verdict, verify};
-use job_read::{Job, read_job};
+use job_read::{Job, Started, read_job, start_job};
 use patch_base::{ReadFault, SCHEDULE_BYTES, Shelf, read_text};
 use source_model::Circuit;
 use std::alloc::Global;
@@ -73,13 +72,12 @@ fn replay(alloc: Global, job: Job, text: &[u8]) -> Result<Replayed, Fault>
     if text.len() as u64 > SCHEDULE_BYTES {
         return Err(Fault::ScheduleTooLong);
     }
-    let Job {
+    let started = start_job(alloc, job)?;
+    let Started {
         circuit,
-        products,
-        layout,
+        board,
         outcomes,
-    } = job;
-    let board = new_board(alloc, layout, products, outcomes.fails.as_slice())?;
+    } = started;
     match verify(alloc, board, &circuit, &outcomes, text)? {
         Verdict::Legal(board) => Ok(Replayed { circuit, board }),
         Verdict::Illegal { line } => Err(Fault::ScheduleIllegal { line }),

@@ -3,17 +3,19 @@
 ghost use Rattle.std.specs.Prelude.{◌≡◌, ℕ, ◌≤◌, List};
 ghost use Rattle.tool_words.specs.Commands as tool;
 ghost use Rattle.tool_top.specs.declared.fault.Fault.{Fault as Fault_of};
-ghost use Rattle.tool_top.specs.Outside.{shelved, writing};
+ghost use Rattle.fault_lines.specs.Sinks.{writing};
+ghost use Rattle.job_read.specs.Shelves.{shelved};
 ghost use Rattle.board_core.specs.Position.{past};
 ghost use Rattle.slice_write.specs.Slices.{sliced};
 ghost use Rattle.slice_write.specs.Pictures.{slices_text};
-ghost use Rattle.tool_top.specs.Carried.{WritesText};
+ghost use Rattle.board_write.specs.Boards.{WritesText};
 ghost use Rattle.tool_top.specs.Ends.{Ends};
 ghost use Rattle.tool_top.specs.Told.{Accepts, EndsBy, IsDone, Refuses};
 
 use crate::fault::Fault;
 use crate::schedule::{Names, read_schedule};
 use board_core::Board;
+use board_write::WriteFault;
 use patch_base::{Shelf, Sink};
 use slice_write::{SliceFault, slices, write_slices};
 use std::alloc::Global;
@@ -37,20 +39,20 @@ pub fn slice_schedule<S: Shelf, O: Sink>(
         (f : Fault_of) → Refuses r (tool.slices names.entry.circuit.now names.entry.layout.now names.entry.outcomes.now names.entry.schedule.now) f → EndsBy f result }
 {
     let replayed = read_schedule(alloc, names, shelf)?;
-    write_board_slices(alloc, &replayed.board, out)
+    write_board_slices(alloc, &replayed.board, out)?;
+    Ok(())
 }
 
 // Writes the slices of a board's history.
-fn write_board_slices<O: Sink>(alloc: Global, board: &Board, out: &mut O) -> Result<(), Fault>
+fn write_board_slices<O: Sink>(alloc: Global, board: &Board, out: &mut O) -> Result<(), WriteFault>
     ensures out_counts { O.faults out.old ≤ O.faults out.new }
     ensures written { let w = writing (O.taken out.old) (O.taken out.new) (O.faults out.old) (O.faults out.new) in
         WritesText w (slices_text board.now.job.grid (sliced board.now.job (past board.now))) result }
-    ensures complete { IsDone result }
 {
     let slices = slices(alloc, board)?;
     match write_slices(alloc, board, &slices, out) {
         Ok(()) => Ok(()),
-        Err(SliceFault::Failed) => Err(Fault::Unwritten),
-        Err(SliceFault::Memory) => Err(Fault::Memory),
+        Err(SliceFault::Failed) => Err(WriteFault::Failed),
+        Err(SliceFault::Memory) => Err(WriteFault::Memory),
     }
 }

@@ -1,21 +1,26 @@
 //! All that `patchtool` does.
 
-ghost use Rattle.std.specs.Prelude.{◌≡◌, ◌≤◌, ◌⊎◌, ℕ, List, map, codes, string_bytes, IfSome, IfNone};
+ghost use Rattle.std.specs.Prelude.{◌≡◌, ◌≤◌, ◌⊎◌, ℕ, List, map, codes, string_bytes};
 ghost use Rattle.tool_words.specs.Commands.{Tool, tool_of, tool_words};
 ghost use Rattle.tool_top.specs.declared.fault.Fault.{Fault as Fault_of};
-ghost use Rattle.tool_top.specs.Outside.{Said, Untouched, shelved, writing};
-ghost use Rattle.tool_top.specs.Ends.{CarriesOut, Ends, IsBuilt, RefusesWords, Writes};
-ghost use Rattle.tool_top.specs.Told.{Accepts, AnswersBy, EndsBy, IsDone, IsDoneStatus, Refuses};
+ghost use Rattle.fault_lines.specs.Sinks.{Said, writing};
+ghost use Rattle.job_read.specs.Shelves.{shelved};
+ghost use Rattle.job_read.specs.Statuses.{IsDoneStatus};
+ghost use Rattle.tool_top.specs.Ends.{CarriesOut, Ends, RefusesWords, Writes};
+ghost use Rattle.tool_top.specs.Told.{Accepts, AnswersBy, EndsBy, IsDone, Refuses};
 
 use crate::fault::Fault;
+use crate::layers::layers;
 use crate::layout::show_layout;
+use crate::least::least;
 use crate::lower::lower;
 use crate::migrate::migrate_schedule;
-use crate::saying::{say, write_line};
+use crate::saying::say;
 use crate::schedule::Names;
 use crate::serial::serial;
 use crate::slices::slice_schedule;
 use crate::verify::verify_schedule;
+use fault_lines::{FaultLine, say_line};
 use patch_base::{Shelf, Sink};
 use std::alloc::Global;
 use tool_words::{ToolCommand, tool_command};
@@ -57,12 +62,8 @@ pub fn tool_main<S: Shelf, O: Sink, E: Sink>(
         return refuse(err);
     };
     match carry_out(alloc, command, shelf, out) {
-        None => refuse(err),
-        Some(Ok(())) => 0,
-        Some(Err(fault)) => {
-            let _ = say(err, command, fault);
-            fault.status()
-        }
+        Ok(()) => 0,
+        Err(fault) => say(err, command, fault),
     }
 }
 
@@ -72,40 +73,37 @@ fn refuse<E: Sink>(err: &mut E) -> u8
     ensures counts { E.faults err.old ≤ E.faults err.new }
     ensures said { Said (writing (E.taken err.old) (E.taken err.new) (E.faults err.old) (E.faults err.new)) (codes "words\n") }
 {
-    let _ = write_line(err, b"words", b"");
+    say_line(err, FaultLine::Words);
     2
 }
 
-// Carries a command out; None for one that isn't built.
+// Carries a command out.
 fn carry_out<S: Shelf, O: Sink>(
     alloc: Global,
     command: ToolCommand<'_>,
     shelf: &mut S,
     out: &mut O,
-) -> Option<Result<(), Fault>>
+) -> Result<(), Fault>
     ensures told { (n : List ℕ) → S.tells shelf.new n ≡ S.tells shelf.old n }
     ensures counts { (n : List ℕ) → S.faults shelf.old n ≤ S.faults shelf.new n }
     ensures out_counts { O.faults out.old ≤ O.faults out.new }
-    ensures built { IfSome result (λ end. IsBuilt (tool_of command.entry)) }
     ensures ends { let r = shelved (S.tells shelf.old) (S.faults shelf.old) (S.faults shelf.new) in
         let w = writing (O.taken out.old) (O.taken out.new) (O.faults out.old) (O.faults out.new) in
-        IfSome result (Ends r w (tool_of command.entry)) }
+        Ends r w (tool_of command.entry) result }
     ensures complete { let r = shelved (S.tells shelf.old) (S.faults shelf.old) (S.faults shelf.new) in
-        Accepts r (tool_of command.entry) → IfSome result IsDone }
+        Accepts r (tool_of command.entry) → IsDone result }
     ensures refuses { let r = shelved (S.tells shelf.old) (S.faults shelf.old) (S.faults shelf.new) in
-        (f : Fault_of) → Refuses r (tool_of command.entry) f → IfSome result (EndsBy f) }
-    ensures other { IfNone result (IsBuilt (tool_of command.entry) → ⊥) }
-    ensures silent { IfNone result (Untouched (writing (O.taken out.old) (O.taken out.new) (O.faults out.old) (O.faults out.new))) }
+        (f : Fault_of) → Refuses r (tool_of command.entry) f → EndsBy f result }
 {
     match command {
         ToolCommand::Serial {
             circuit,
             layout,
             outcomes,
-        } => Some(serial(alloc, circuit, layout, outcomes, shelf, out)),
-        ToolCommand::Lower { circuit } => Some(lower(alloc, circuit, shelf, out)),
+        } => serial(alloc, circuit, layout, outcomes, shelf, out),
+        ToolCommand::Lower { circuit } => lower(alloc, circuit, shelf, out),
         ToolCommand::Layout { circuit, layout } => {
-            Some(show_layout(alloc, circuit, layout, shelf, out))
+            show_layout(alloc, circuit, layout, shelf, out)
         }
         ToolCommand::Verify {
             circuit,
@@ -119,7 +117,7 @@ fn carry_out<S: Shelf, O: Sink>(
                 outcomes,
                 schedule,
             };
-            Some(verify_schedule(alloc, names, shelf, out))
+            verify_schedule(alloc, names, shelf, out)
         }
         ToolCommand::Slices {
             circuit,
@@ -133,7 +131,7 @@ fn carry_out<S: Shelf, O: Sink>(
                 outcomes,
                 schedule,
             };
-            Some(slice_schedule(alloc, names, shelf, out))
+            slice_schedule(alloc, names, shelf, out)
         }
         ToolCommand::Migrate {
             circuit,
@@ -147,8 +145,13 @@ fn carry_out<S: Shelf, O: Sink>(
                 outcomes,
                 schedule,
             };
-            Some(migrate_schedule(alloc, names, shelf, out))
+            migrate_schedule(alloc, names, shelf, out)
         }
-        ToolCommand::Layers { .. } | ToolCommand::Least { .. } => None,
+        ToolCommand::Layers { circuit } => layers(alloc, circuit, shelf, out),
+        ToolCommand::Least {
+            circuit,
+            layout,
+            outcomes,
+        } => least(alloc, circuit, layout, outcomes, shelf, out),
     }
 }

@@ -3,7 +3,8 @@
 ghost use Rattle.std.specs.Prelude.{◌≡◌, ℕ, ◌≤◌, List};
 ghost use Rattle.tool_words.specs.Commands as tool;
 ghost use Rattle.tool_top.specs.declared.fault.Fault.{Fault as Fault_of};
-ghost use Rattle.tool_top.specs.Outside.{shelved, writing};
+ghost use Rattle.fault_lines.specs.Sinks.{writing};
+ghost use Rattle.job_read.specs.Shelves.{shelved};
 ghost use Rattle.tool_top.specs.Ends.{Ends};
 ghost use Rattle.tool_top.specs.Told.{Accepts, EndsBy, IsDone, Refuses};
 

@@ -1,7 +1,7 @@
 use Rattle.job_read.specs.declared.fault.JobFault.TheVariants as job
 use Rattle.tool_top.specs.declared.fault.Fault.{Fault}
 use Rattle.tool_top.specs.declared.fault.Fault.TheVariants as fault
-use Rattle.tool_top.specs.Outside.{shelved}
+use Rattle.job_read.specs.Shelves.{shelved}
 use Rattle.tool_top.specs.Told.{EndsBy}
 use Rattle.tool_top.proofs.Accepting.{done_job, told_later, layout_later}
 use Rattle.tool_top.proofs.Refusing.{by_layout, ends_by, ends_outside, refused_later}

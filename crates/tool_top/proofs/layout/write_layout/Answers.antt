@@ -1,6 +1,6 @@
 use Rattle.std.proofs.Common.{rules, [], ◌∷◌, decimal}
 use Rattle.slice_write.specs.Pictures.{picture, nobody}
-use Rattle.tool_top.proofs.Sinks.{grew_on, part_longer, part_on}
+use Rattle.fault_lines.proofs.Sinks.{grew_on, part_longer, part_on}
 use Rattle.tool_top.proofs.layout.write_layout.Goals as goal
 
 pub returns-in_err-write_number-clause-part : goal.returns-in_err-write_number-clause-part

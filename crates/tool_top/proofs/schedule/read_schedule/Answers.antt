@@ -3,7 +3,7 @@ use Rattle.history_replay.specs.Replay.{IsTextOf, FirstBad}
 use Rattle.job_read.specs.declared.Job.{Job}
 use Rattle.tool_top.specs.declared.fault.Fault.{Fault}
 use Rattle.tool_top.specs.declared.fault.Fault.TheVariants as fault
-use Rattle.tool_top.specs.Outside.{shelved}
+use Rattle.job_read.specs.Shelves.{shelved}
 use Rattle.tool_top.specs.Told.{EndsBy}
 use Rattle.tool_top.specs.Replayed.{IsReplayed, IsReplayedOn, StopsReading, StopsReplaying}
 use Rattle.tool_top.specs.Schedules.{IsShort, asked_of}

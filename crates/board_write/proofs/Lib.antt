@@ -1,0 +1,3 @@
+mod SameBits
+mod Scheduled
+mod Written
