@@ -1,0 +1,7 @@
+pub mod Gates
+pub mod Passing
+pub mod Routing
+pub mod Tries
+pub mod Ends
+pub mod Routes
+pub mod inside

@@ -1,0 +1,8 @@
+-- Calls that are made again while the turn is held.
+use Rattle.std.specs.Prelude.{◌≡◌, ◌≤◌}
+use Rattle.grid_lock.specs.declared.view.View.{View}
+
+-- the turn was found held, any number of times, and the pass knows nothing else than before
+pub record Waited (v w : View) : Type 0 where
+  pub is : w ≡ record v { met = w.met }
+  pub met : v.met ≤ w.met

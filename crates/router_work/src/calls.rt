@@ -1,0 +1,173 @@
+//! Calls on a grid, each made again while the turn is held.
+
+ghost use Rattle.std.specs.Prelude.{◌≡◌};
+ghost use denote.RawPtr.{Ptr};
+ghost use Rattle.patch_layout.specs.declared.plan.Plan.{Plan as Plans};
+ghost use Rattle.board_core.specs.Shows.{IsMadeFor};
+ghost use Rattle.grid_lock.specs.Passes.{IsOf, IsSamePass, IsCalm};
+ghost use Rattle.grid_lock.specs.Replies.{Claims, Delivers, Releases, Steps, Looks};
+ghost use Rattle.grid_lock.specs.declared.view.View.{View};
+ghost use Rattle.grid_lock.specs.declared.replies.TryLook.TheVariants as looks;
+ghost use Rattle.grid_lock.specs.declared.replies.TryClaim.TheVariants as claims;
+ghost use Rattle.grid_lock.specs.declared.replies.TryDeliver.TheVariants as delivers;
+ghost use Rattle.grid_lock.specs.declared.replies.TryRelease.TheVariants as releases;
+ghost use Rattle.grid_lock.specs.declared.replies.TryStep.TheVariants as steps;
+ghost use Rattle.router_work.specs.Ends.{MetMore};
+ghost use Rattle.router_work.specs.inside.Waits.{Waited};
+
+use board_core::{Claimed, Noted};
+use crossbeam_utils::Backoff;
+use grid_lock::{Grid, Pass, TryClaim, TryDeliver, TryLook, TryRelease, TryStep};
+use magic_pool::Stepped;
+use node_log::Node;
+use patch_layout::{Look, Plan};
+use source_model::Given;
+
+/// How many answers Busy in a row are enough.
+pub(crate) const BUSY: u32 = 1_048_576;
+
+/// Looks at a product.
+pub(crate) fn look(grid: &Grid, pass: &mut Pass, p: u32, look: &mut Look) -> Result<(), TryLook>
+    requires grid { IsOf grid.now pass.old }
+    requires made { IsMadeFor grid.now.opened look.old }
+    ensures grid { IsOf grid.now pass.new }
+    ensures same { IsSamePass pass.old pass.new }
+    ensures told { (v : View) × Waited pass.old.view v × Looks v p look.old result pass.new.view look.new }
+    ensures busy { result ≡ Err looks.Busy → MetMore 1048576 pass.old pass.new }
+    ensures rests { IsCalm pass.new }
+    ensures made { IsMadeFor grid.now.opened look.new }
+{
+    let backoff = Backoff::new();
+    for _turn in 0..BUSY {
+        match grid.try_look(pass, p, look) {
+            Ok(()) => return Ok(()),
+            Err(TryLook::NoProduct) => return Err(TryLook::NoProduct),
+            Err(TryLook::Busy) => backoff.snooze(),
+        }
+    }
+    Err(TryLook::Busy)
+}
+
+/// Claims a product's region.
+pub(crate) fn claim(
+    grid: &Grid,
+    pass: &mut Pass,
+    plan: Plan,
+    node: Node<Noted>,
+) -> Result<Claimed, TryClaim>
+    requires grid { IsOf grid.now pass.old }
+    ensures grid { IsOf grid.now pass.new }
+    ensures same { IsSamePass pass.old pass.new }
+    ensures told { (v : View) × Waited pass.old.view v × Claims v plan node result pass.new.view }
+    ensures busy { (p : Plans) (n : Ptr) → result ≡ Err (claims.Busy p n) → MetMore 1048576 pass.old pass.new }
+    ensures rests { IsCalm pass.new }
+{
+    let backoff = Backoff::new();
+    let mut plan = plan;
+    let mut node = node;
+    for _turn in 0..BUSY {
+        match grid.try_claim(pass, plan, node) {
+            Ok(claimed) => return Ok(claimed),
+            Err(TryClaim::Refused(refused)) => return Err(TryClaim::Refused(refused)),
+            Err(
+                TryClaim::Busy {
+                    plan: same_plan,
+                    node: same_node,
+                },
+            ) => {
+                plan = same_plan;
+                node = same_node;
+                backoff.snooze();
+            }
+        }
+    }
+    Err(TryClaim::Busy { plan, node })
+}
+
+/// Delivers an outcome, or settles.
+pub(crate) fn deliver(
+    grid: &Grid,
+    pass: &mut Pass,
+    p: u32,
+    given: Given,
+    node: Node<Noted>,
+) -> Result<u32, TryDeliver>
+    requires grid { IsOf grid.now pass.old }
+    ensures grid { IsOf grid.now pass.new }
+    ensures same { IsSamePass pass.old pass.new }
+    ensures told { (v : View) × Waited pass.old.view v × Delivers v p given node result pass.new.view }
+    ensures busy { (n : Ptr) → result ≡ Err (delivers.Busy n) → MetMore 1048576 pass.old pass.new }
+    ensures rests { IsCalm pass.new }
+{
+    let backoff = Backoff::new();
+    let mut node = node;
+    for _turn in 0..BUSY {
+        match grid.try_deliver(pass, p, given, node) {
+            Ok(place) => return Ok(place),
+            Err(TryDeliver::Refused(refused)) => return Err(TryDeliver::Refused(refused)),
+            Err(TryDeliver::Busy { node: same_node }) => {
+                node = same_node;
+                backoff.snooze();
+            }
+        }
+    }
+    Err(TryDeliver::Busy { node })
+}
+
+/// Releases a product.
+pub(crate) fn release(
+    grid: &Grid,
+    pass: &mut Pass,
+    p: u32,
+    node: Node<Noted>,
+) -> Result<u32, TryRelease>
+    requires grid { IsOf grid.now pass.old }
+    ensures grid { IsOf grid.now pass.new }
+    ensures same { IsSamePass pass.old pass.new }
+    ensures told { (v : View) × Waited pass.old.view v × Releases v p node result pass.new.view }
+    ensures busy { (n : Ptr) → result ≡ Err (releases.Busy n) → MetMore 1048576 pass.old pass.new }
+    ensures rests { IsCalm pass.new }
+{
+    let backoff = Backoff::new();
+    let mut node = node;
+    for _turn in 0..BUSY {
+        match grid.try_release(pass, p, node) {
+            Ok(place) => return Ok(place),
+            Err(TryRelease::Refused(refused)) => return Err(TryRelease::Refused(refused)),
+            Err(TryRelease::Busy { node: same_node }) => {
+                node = same_node;
+                backoff.snooze();
+            }
+        }
+    }
+    Err(TryRelease::Busy { node })
+}
+
+/// Makes a step of a factory.
+pub(crate) fn step(
+    grid: &Grid,
+    pass: &mut Pass,
+    factory: u32,
+    node: Node<Noted>,
+) -> Result<(u32, Stepped), TryStep>
+    requires grid { IsOf grid.now pass.old }
+    ensures grid { IsOf grid.now pass.new }
+    ensures same { IsSamePass pass.old pass.new }
+    ensures told { (v : View) × Waited pass.old.view v × Steps v factory node result pass.new.view }
+    ensures busy { (n : Ptr) → result ≡ Err (steps.Busy n) → MetMore 1048576 pass.old pass.new }
+    ensures rests { IsCalm pass.new }
+{
+    let backoff = Backoff::new();
+    let mut node = node;
+    for _turn in 0..BUSY {
+        match grid.try_step(pass, factory, node) {
+            Ok(stepped) => return Ok(stepped),
+            Err(TryStep::Refused(refused)) => return Err(TryStep::Refused(refused)),
+            Err(TryStep::Busy { node: same_node }) => {
+                node = same_node;
+                backoff.snooze();
+            }
+        }
+    }
+    Err(TryStep::Busy { node })
+}

@@ -1,0 +1,118 @@
+//! Makers.
+
+ghost use Rattle.std.specs.Prelude.{◌≡◌, ◌<◌, ◌≤◌, ℕ, ◌^◌, length};
+ghost use Rattle.grid_lock.specs.Passes.{IsOf};
+ghost use Rattle.router_work.specs.Passing.{IsStepOf, Passed};
+ghost use Rattle.router_work.specs.Routing.{HasFactory};
+ghost use Rattle.router_work.specs.Ends.{MakerEnds};
+
+use crate::calls::step;
+use board_core::BoardStepWhy;
+use crossbeam_utils::Backoff;
+use grid_lock::{Grid, Pass, TryStep};
+use node_log::Node;
+use std::alloc::Global;
+use std::marker::Model;
+
+/// How many refusals in a row end a maker.
+pub(crate) const REFUSALS: u32 = 64;
+
+/// Why a maker ended.
+#[derive(Clone, Copy, Debug, PartialEq, Eq)]
+pub enum MakerEnd {
+    /// Its factory has as many ready states as it stores, and refused 64 steps in a row.
+    Stocked,
+    /// The turn was held 1,048,576 times in a row.
+    Busy,
+    /// Out of memory.
+    Memory,
+}
+
+/// A worker that steps one factory, so that magic states are ready. Contracts see its grid, its pass and the factory.
+#[derive(Drop)]
+pub struct Maker<'a> {
+    alloc: Global,
+    grid: &'a Grid,
+    pass: Pass,
+    factory: u32,
+}
+
+impl<'a> Model for Maker<'a> {
+    ghost use Rattle.grid_lock.specs.Passes.{IsOf};
+    ghost use Rattle.router_work.specs.Routing.{HasFactory, Making, making};
+
+    ghost Value = { Making };
+
+    ghost view = { λ m. making m.grid.now m.pass m.factory };
+
+    ghost invariant = { λ m. IsOf m.grid.now m.pass × HasFactory m.grid.now m.factory };
+}
+
+impl<'a> Maker<'a> {
+    /// A maker with a pass of the grid, for a factory of the layout of the grid's board.
+    pub fn new(alloc: Global, grid: &'a Grid, pass: Pass, factory: u32) -> Maker<'a>
+        requires pass { IsOf grid.now pass }
+        requires factory { HasFactory grid.now factory }
+        ensures grid { result.grid ≡ grid.entry.now }
+        ensures pass { result.pass ≡ pass }
+        ensures factory { result.factory ≡ factory }
+    {
+        Maker {
+            alloc,
+            grid,
+            pass,
+            factory,
+        }
+    }
+
+    /// The pass.
+    pub fn into_pass(self) -> Pass
+        ensures { result ≡ self.entry.pass }
+    {
+        self.pass
+    }
+
+    /// Steps the factory until it is full, and refused 64 steps in a row.
+    pub fn work(&mut self) -> MakerEnd
+        ensures grid { self.new.grid ≡ self.old.grid }
+        ensures factory { self.new.factory ≡ self.old.factory }
+        ensures passed { Passed (IsStepOf self.old.factory) self.old.pass self.new.pass }
+        ensures ends { MakerEnds result self.old.factory self.old.pass self.new.pass }
+    {
+        fill(self.alloc, self.grid, &mut self.pass, self.factory)
+    }
+}
+
+// Steps a factory until it is full, and refused 64 steps in a row.
+fn fill(alloc: Global, grid: &Grid, pass: &mut Pass, factory: u32) -> MakerEnd
+    requires grid { IsOf grid.now pass.old }
+    requires factory { HasFactory grid.now factory }
+    ensures passed { Passed (IsStepOf factory) pass.old pass.new }
+    ensures ends { MakerEnds result factory pass.old pass.new }
+{
+    let _ = pass.number();
+    let Ok(mut node) = Node::empty(alloc) else {
+        return MakerEnd::Memory;
+    };
+    let mut refusals = 0;
+    let backoff = Backoff::new();
+    while refusals < REFUSALS {
+        match step(grid, pass, factory, node) {
+            Ok(_) => {
+                refusals = 0;
+                backoff.reset();
+                match Node::empty(alloc) {
+                    Ok(next) => node = next,
+                    Err(_) => return MakerEnd::Memory,
+                }
+            }
+            Err(TryStep::Busy { .. }) => return MakerEnd::Busy,
+            Err(TryStep::Refused(refused)) => {
+                refusals += 1;
+                backoff.snooze();
+                node = refused.node;
+            }
+        }
+    }
+    MakerEnd::Stocked
+}
