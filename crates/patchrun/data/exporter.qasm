@@ -1,0 +1,12 @@
+OPENQASM 2.0;
+include "qelib1.inc";
+qreg q[5];
+creg c[5];
+h q[0];
+cx q[0],q[1];
+t q[1];
+swap q[1],q[2];
+tdg q[2];
+barrier q[0],q[1],q[2],q[3],q[4];
+h q[2];
+measure q -> c;

@@ -1,0 +1,5 @@
+mod Agreeing
+mod Carrying
+mod Ending
+mod Asking
+mod Routed

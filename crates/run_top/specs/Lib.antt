@@ -1,0 +1,5 @@
+pub mod Faults
+pub mod Carried
+pub mod Big
+pub mod Ends
+pub mod Told

@@ -1,0 +1,59 @@
+-- What told texts bring: where all are accepted, and where one is refused.
+use Rattle.std.specs.Prelude.{◌≡◌, ◌⊎◌, ℕ, ◌≤◌, MatchResult, Result, Ok, Err}
+use Rattle.fault_lines.specs.Sinks.{Writing, Said}
+use Rattle.job_read.specs.declared.Job.{Job}
+use Rattle.job_read.specs.Reading.{Reading}
+use Rattle.job_read.specs.Jobs as job_faults
+use Rattle.job_read.specs.Jobs.{StandsForJob, TellsUpTo, TellsAll}
+use Rattle.job_read.specs.Shelves.{Shelved, job_on}
+use Rattle.tool_words.specs.Commands.{Run, run, bits, big, side}
+use Rattle.run_top.specs.declared.fault.Fault.{Fault}
+use Rattle.run_top.specs.declared.fault.Fault.TheVariants as fault
+use Rattle.run_top.specs.Faults.{status_of, fault_line}
+use Rattle.run_top.specs.Big.{OnBig}
+
+-- the shelf or the output failed, or memory ran out
+abbrev pub IsOutside : Fault → Type 0
+IsOutside (fault.Job f) = job_faults.IsOutside f
+IsOutside fault.Unwritten = Unit {0}
+IsOutside fault.Memory = Unit {0}
+
+-- ---- accepted texts
+
+-- the job's texts are told, and accepted
+abbrev pub AcceptsJob : Reading → Type 0
+AcceptsJob j = (job : Job) × TellsAll j × StandsForJob j job
+
+-- all texts that the command reads are told, and accepted
+abbrev pub Accepts : Shelved → Run → Type 0
+Accepts r (run c l o k) = AcceptsJob (job_on r c l o)
+Accepts r (bits c l o k) = AcceptsJob (job_on r c l o)
+Accepts r (big n k) = OnBig n (λ job. Unit {0})
+Accepts r (side l k names) = ⊥
+
+-- all was done, or the outside is the cause that it wasn't
+abbrev pub IsDone : Result (Unit {0}) Fault → Type 0
+IsDone (Ok done) = Unit {0}
+IsDone (Err f) = IsOutside f
+
+-- ---- refused texts
+
+-- a text of a job is told and refused, and those before it are told and accepted
+abbrev pub RefusesJob : Reading → Fault → Type 0
+RefusesJob j (fault.Job f) = TellsUpTo j f × job_faults.Refuses j f
+RefusesJob j _ = ⊥
+
+-- a text that the command reads is told and refused with this fault, and all before it are told and accepted
+abbrev pub Refuses : Shelved → Run → Fault → Type 0
+Refuses r (run c l o k) f = RefusesJob (job_on r c l o) f
+Refuses r (bits c l o k) f = RefusesJob (job_on r c l o) f
+Refuses r (big n k) f = ⊥
+Refuses r (side l k names) f = ⊥
+
+-- it ended with this fault, or with one of the outside
+abbrev pub EndsBy : {A : Type 0} → Fault → Result A Fault → Type 0
+EndsBy f end = MatchResult end (λ a. ⊥) (λ e. (e ≡ f) ⊎ IsOutside e)
+
+-- the fault's status, and its line on `err`, or a status that the outside is the cause of: 7, 8 or 9
+abbrev pub AnswersBy : Writing → Run → Fault → ℕ → Type 0
+AnswersBy e t f status = ((status ≡ status_of f) × Said e (fault_line t f)) ⊎ (7 ≤ status)
