@@ -8,9 +8,11 @@ use Rattle.qasm_grammar.specs.declared.spoken.BodyStatement.{BodyStatement}
 use Rattle.qasm_grammar.specs.declared.spoken.BodyStatement.TheVariants as bodies
 use Rattle.qasm_grammar.specs.declared.spoken.Sentence.{Sentence}
 use Rattle.qasm_grammar.specs.declared.spoken.Sentence.TheVariants as sentences
+use denote.Enum.Bare.{same_false}
+use Rattle.qasm_grammar.specs.contracts.terminal.Terminal.{the_type}
 use Rattle.qasm_grammar.specs.Forms.{fits}
 use Rattle.qasm_grammar.specs.Spelling.{Piece, Stands, fixed, Spells, arg_text, names_text, args_text, call_text, body_text, bodies_text, sentence_text}
-use Rattle.qasm_grammar.proofs.Steps.{own}
+use Rattle.qasm_grammar.proofs.Steps.{own, by_callee}
 use Rattle.qasm_grammar.proofs.Sole.{found_same, clash, split, bracketed, unopened, name_text, name_named, arg_named, args_closed, names_closed, arg_closed}
 
 abbrev semicolon : List Piece
@@ -104,10 +106,7 @@ lead_of terminals.Pauli = terminals.Callee
 lead_of t = t
 
 lead_callee : (t : Terminal) → fits t terminals.Callee ≡ true → lead_of t ≡ terminals.Callee
-lead_callee terminals.Name e = refl
-lead_callee terminals.Pauli e = refl
-lead_callee terminals.Callee e = refl
-lead_callee t e = cc
+lead_callee = by_callee (λ t. lead_of t ≡ terminals.Callee) refl refl refl
 
 lead_is : (s : Sentence) (t : Terminal) → fits t (lead s) ≡ true → lead_of t ≡ lead s
 lead_is sentences.Include t e = ap lead_of (own terminals.Include refl t e)
@@ -164,7 +163,7 @@ alike (sentences.Barrier a) (sentences.Barrier b) l found at m n s t =
 alike (sentences.Reset a) (sentences.Reset b) l found at m n s t =
     let q = arg_closed Semicolon (own Semicolon refl) refl a b [] [] found (at + 1) m n s.1 t.1 in
     ((λ i. sentences.Reset (q.0 i)), sym q.1.1 ∙ q.1.2)
-alike s u l found at m n p q = absurd (cc)
+alike s u l found at m n p q = absurd (same_false the_type (lead s) (lead u) refl l)
 
 pub sentence_one : (s u : Sentence) (found : List Terminal) (at m n : ℕ) → Spells (sentence_text s) found at m → Spells (sentence_text u) found at n → (s ≡ u) × (m ≡ n)
 sentence_one s u found at m n p q = alike s u (same_lead s u found at (lead_stands s found at m p) (lead_stands u found at n q)) found at m n p q

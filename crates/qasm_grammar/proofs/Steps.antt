@@ -1,5 +1,5 @@
 -- How a form goes on at one token.
-use Rattle.std.proofs.Common.{◌≡◌, ℕ, ◌+◌, ◌<◌, Bool, true, false, not, ◌&&◌, ◌||◌, List, [], ◌∷◌, ◌-◌, ◌≤◌, length, get_or, drop, add-one, drop-cons, length-drop, None, Result, Ok, Err, refl, ap, ◌∙◌, arith}
+use Rattle.std.proofs.Common.{◌≡◌, ℕ, ◌+◌, ◌<◌, Bool, true, false, not, ◌&&◌, ◌||◌, List, [], ◌∷◌, ◌-◌, ◌≤◌, length, get_or, drop, add-one, drop-cons, length-drop, None, Result, Ok, Err, ◌⊎◌, inl, inr, refl, sym, ap, subst, ◌∙◌, arith}
 use Rattle.std.proofs.lemmas.List.{drop-drop}
 use denote.Enum.Bare.{same_true}
 use Rattle.qasm_grammar.specs.declared.follow.Refusal.{Refusal}
@@ -39,6 +39,21 @@ last_one false false false x y z r h e = e
 
 pub own : (s : Terminal) → alone s ≡ true → (t : Terminal) → fits t s ≡ true → t ≡ s
 own s o t e = same_true the_type tt t s (last_one (same s Name) (same s Callee) (same s Word) (same t Taken || same t Pauli) (same t Name || same t Pauli) (is_other_word t) (same t s) o e)
+
+one_of : (a b c : Bool) → (a || b) || c ≡ true → (a ≡ true) ⊎ ((b ≡ true) ⊎ (c ≡ true))
+one_of true b c e = inl refl
+one_of false true c e = inr (inl refl)
+one_of false false c e = inr (inr e)
+
+-- what holds of the tokens that fit a called name
+pub by_callee : (P : Terminal → Type 0) → P Name → P Pauli → P Callee → (t : Terminal) → fits t Callee ≡ true → P t
+by_callee P name pauli callee t e = elim (one_of (same t Name) (same t Pauli) (same t Callee) e) [
+  | inl a ↦ subst P (sym (same_true the_type tt t Name a)) name
+  | inr b ↦ elim b [
+    | inl a ↦ subst P (sym (same_true the_type tt t Pauli a)) pauli
+    | inr a ↦ subst P (sym (same_true the_type tt t Callee a)) callee
+  ]
+]
 
 or_refused : (f : Form) → refusal f ≡ None → f or refused Syntax ≡ f
 unfolding ◌or◌

@@ -64,8 +64,11 @@ pub fn is_next(found: &[Terminal], at: usize, wanted: Terminal) -> bool
 /// Reads these tokens.
 pub fn expect(found: &[Terminal], at: usize, wanted: &[Terminal]) -> Result<usize, Unread>
     requires { at ≤ length found.now }
-    ensures within { IfOk result (λ end. (end ≡ at + length wanted.now) × (end ≤ length found.now)) }
-    ensures form { (k : Form) → refusal k ≡ None → GoesOn (λ end. end) result k found.now (reads (tokens_then wanted.now k) (drop at found.now) at) }
+    ensures within { IfOk result (λ end.
+        (end ≡ at + length wanted.now) × (end ≤ length found.now)) }
+    ensures form { (k : Form) → refusal k ≡ None
+        → GoesOn (λ end. end) result k found.now
+        (reads (tokens_then wanted.now k) (drop at found.now) at) }
     ensures spelled { IfOk result (λ end. Spells (fixed_text wanted.now) found.now at end) }
 {
     let mut end = at;

@@ -36,7 +36,8 @@ fn arg(found: &[Terminal], at: usize) -> Result<(Argument, usize), Unread>
 fn args(alloc: Global, found: &[Terminal], at: usize) -> Result<(Listed<Argument>, usize), Unread>
     requires { at ≤ length found.now }
     ensures within { IfOk result (λ x. (at ≤ x.1) × (x.1 ≤ length found.now)) }
-    ensures form { Reads (λ x. x.1) grammar.args (Terminal.OpenBracket ∷ Terminal.Comma ∷ []) found.now at result }
+    ensures form { Reads (λ x. x.1) grammar.args
+        (Terminal.OpenBracket ∷ Terminal.Comma ∷ []) found.now at result }
     ensures spelled { IfOk result (λ x. Spells (args_text x.0) found.now at x.1) }
 {
     let mut read = Listed::new(alloc);
@@ -74,7 +75,8 @@ fn register(found: &[Terminal], at: usize, kind: Terminal) -> Result<usize, Unre
     requires { at ≤ length found.now }
     ensures within { IfOk result (λ end. (at < end) × (end ≤ length found.now)) }
     ensures form { Closes (λ end. end) (grammar.register kind) found.now at result }
-    ensures spelled { IfOk result (λ end. Spells (register_text kind (at + 1) (at + 3)) found.now at end) }
+    ensures spelled { IfOk result (λ end.
+        Spells (register_text kind (at + 1) (at + 3)) found.now at end) }
 {
     expect(
         found,
@@ -311,7 +313,8 @@ fn bodies(
     requires { at ≤ length found.now }
     ensures within { IfOk result (λ x. (at < x.1) × (x.1 ≤ length found.now)) }
     ensures form { Closes (λ x. x.1) grammar.bodies found.now at result }
-    ensures spelled { IfOk result (λ x. Spells (bodies_text x.0 ++ (fixed Terminal.CloseBrace ∷ [])) found.now at x.1) }
+    ensures spelled { IfOk result (λ x.
+        Spells (bodies_text x.0 ++ (fixed Terminal.CloseBrace ∷ [])) found.now at x.1) }
 {
     let mut read = Listed::new(alloc);
     let mut end = at;

@@ -1,3 +1,4 @@
+pub mod Chains
 pub mod Lists
 pub mod First
 pub mod Numbers

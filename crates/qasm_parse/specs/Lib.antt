@@ -10,6 +10,7 @@ pub mod Small
 pub mod Known
 pub mod Faults
 pub mod Meets
+pub mod Tried
 pub mod Behind
 pub mod Pass
 pub mod Laws

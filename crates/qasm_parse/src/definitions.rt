@@ -1,12 +1,10 @@
 //! The definitions of gates.
 
-ghost use Rattle.std.specs.Prelude.{◌≡◌, nat_le, nat_lt, ◌||◌, None, ◌<◌, ◌≤◌, [], map, flat_map, fold, max, length, IfOk};
-ghost use Rattle.qasm_parse.specs.declared.tree.BodyOp.TheVariants as ops;
-ghost use Rattle.qasm_parse.specs.Known.{gate_named, place_of};
+ghost use Rattle.std.specs.Prelude.{◌≡◌, nat_le, nat_lt, ◌||◌, ◌<◌, ◌≤◌, max, length, IfOk};
+ghost use Rattle.qasm_parse.specs.Known.{gate_named};
 ghost use Rattle.qasm_parse.specs.Lexed.{word_at};
-ghost use Rattle.qasm_parse.specs.Meets.{Meets, Finds};
-ghost use Rattle.qasm_parse.specs.Faults.{repeated, informal, formal_of, body_call_faults, named_op_faults, body_faults, head_faults, gate_faults};
-ghost use Rattle.qasm_parse.specs.Behind.{gate_of, op_of, depth_of, with_gate};
+ghost use Rattle.qasm_parse.specs.Meets.{Finds};
+ghost use Rattle.qasm_parse.specs.Tried.{TriesFormals, Numbers, TriesOp, TriesNamedOp, TriesBody, TriesBodies, TriesHead, IsNew, HasRoom, TriesGate};
 
 use crate::gates::cx;
 use crate::known::{Called, Known, Meaning};
@@ -22,7 +20,7 @@ use std::alloc::Global;
 
 // The formal names of a definition, none of them twice.
 fn formal_names(alloc: Global, source: &Source<'_>, formals: &[usize]) -> Result<NameList, Fault>
-    ensures { Meets result (repeated source.now [] formals.now) (map (word_at source.now) formals.now) }
+    ensures { TriesFormals result source.now formals.now }
 {
     let mut names = NameList::new(alloc);
     for formal in formals {
@@ -48,7 +46,7 @@ fn formal_numbers(
     args: &[usize],
 ) -> Result<Listed<u32>, Fault>
     requires { length names.now ≤ 64 }
-    ensures { Meets result (map (informal source.now names.now) args.now) (map (formal_of source.now names.now) args.now) }
+    ensures { Numbers result source.now names.now args.now }
 {
     let mut numbers = Listed::new(alloc);
     for arg in args {
@@ -73,7 +71,7 @@ fn try_formals(
     args: &[usize],
 ) -> Result<BodyOp, Fault>
     requires { length names.now ≤ 64 }
-    ensures value { Meets result (body_call_faults source.now names.now at called args.now) (ops.Call called.gate (map (formal_of source.now names.now) args.now)) }
+    ensures value { TriesOp result source.now names.now at called args.now }
     ensures shallow { IfOk result (λ op. called.depth < 64) }
 {
     let numbers = formal_numbers(alloc, source, names, args)?;
@@ -111,7 +109,7 @@ fn named_op(
     args: &[usize],
 ) -> Result<(BodyOp, u32), Fault>
     requires { length names.now ≤ 64 }
-    ensures value { Meets result (named_op_faults source.now known.now names.now name args.now) (ops.Call (gate_of source.now known.now name).gate (map (formal_of source.now names.now) args.now), (gate_of source.now known.now name).depth) }
+    ensures value { TriesNamedOp result source.now known.now names.now name args.now }
     ensures shallow { IfOk result (λ r. r.1 < 64) }
 {
     let called = find_gate(source, known, name)?;
@@ -128,7 +126,7 @@ fn body_op(
     statement: &BodyStatement,
 ) -> Result<(BodyOp, u32), Fault>
     requires { length names.now ≤ 64 }
-    ensures value { Meets result (body_faults source.now known.now names.now statement.now) (op_of source.now known.now names.now statement.now, depth_of source.now known.now statement.now) }
+    ensures value { TriesBody result source.now known.now names.now statement.now }
     ensures shallow { IfOk result (λ r. r.1 < 64) }
 {
     match statement {
@@ -175,7 +173,7 @@ fn body_ops(
     body: &[BodyStatement],
 ) -> Result<(Listed<BodyOp>, u32), Fault>
     requires { length names.now ≤ 64 }
-    ensures value { Meets result (flat_map (body_faults source.now known.now names.now) body.now) (map (op_of source.now known.now names.now) body.now, fold max 0 (map (depth_of source.now known.now) body.now)) }
+    ensures value { TriesBodies result source.now known.now names.now body.now }
     ensures shallow { IfOk result (λ r. r.1 < 64) }
 {
     let mut ops = Listed::new(alloc);
@@ -204,9 +202,9 @@ fn head(
     name: usize,
     formals: &[usize],
 ) -> Result<NameList, Fault>
-    ensures value { Meets result (head_faults source.now known.now at name formals.now) (map (word_at source.now) formals.now) }
-    ensures new { IfOk result (λ names. place_of known.now.names (word_at source.now name) ≡ None) }
-    ensures few { IfOk result (λ names. (length known.now.tree.gates < 1024) × (length formals.now ≤ 64)) }
+    ensures value { TriesHead result source.now known.now at name formals.now }
+    ensures new { IfOk result (λ names. IsNew source.now known.now name) }
+    ensures few { IfOk result (λ names. HasRoom known.now formals.now) }
 {
     if known.is_declared(source.word(name)) {
         return Err(Fault::Stopping(Stop {
@@ -234,7 +232,7 @@ pub fn define(
     formals: &[usize],
     body: &[BodyStatement],
 ) -> Result<Known, Fault>
-    ensures { Meets result (gate_faults source.now known at name formals.now body.now) (with_gate source.now known name formals.now body.now) }
+    ensures { TriesGate result source.now known at name formals.now body.now }
 {
     let names = head(alloc, source, &known, at, name, formals)?;
     let (ops, deepest) = body_ops(alloc, source, &known, &names, body)?;

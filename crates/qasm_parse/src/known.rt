@@ -12,14 +12,14 @@ use std::alloc::Global;
 use std::marker::Model;
 
 /// The numbers of a register.
-#[derive(Clone, Copy, Debug, PartialEq, Eq)]
+#[derive(Clone, Copy)]
 pub struct Span {
     pub first: u32,
     pub size: u32,
 }
 
 /// A gate that may be called: what it is, how many qubits it takes, and its depth, which is 0 for a built-in one.
-#[derive(Clone, Copy, Debug, PartialEq, Eq)]
+#[derive(Clone, Copy)]
 pub struct Called {
     pub gate: Callee,
     pub arity: u32,
@@ -27,7 +27,7 @@ pub struct Called {
 }
 
 /// What a name that the text declares means.
-#[derive(Clone, Copy, Debug, PartialEq, Eq)]
+#[derive(Clone, Copy)]
 pub enum Meaning {
     Quantum { span: Span },
     Classical { span: Span },

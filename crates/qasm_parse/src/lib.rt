@@ -64,7 +64,7 @@ fn read(alloc: Global, source: &Source<'_>) -> Result<Known, Fault>
     'reading: while at < found.as_slice().len() {
         let (sentence, end) = next_statement(alloc, &found, at)?;
         let before = known.included;
-        known = try_sentence(alloc, source, known, at, &sentence)?;
+        known = try_sentence(alloc, source, known, at, sentence)?;
         found = refreshed(alloc, source, found, before, known.included)?;
         at = end;
     }

@@ -1,11 +1,10 @@
 //! The arguments of calls, and what they mean.
 
-ghost use Rattle.std.specs.Prelude.{◌≡◌, ◌++◌, ◌∷◌, [], ◌-◌, ◌==◌, ◌&&◌, Some, None, IfOk, nat_eq, nat_lt, nat_le};
+ghost use Rattle.std.specs.Prelude.{◌≡◌, ◌-◌, ◌==◌, ◌&&◌, Some, None, IfOk, nat_eq, nat_lt, nat_le};
 ghost use Rattle.std.specs.List.{list_any, list_all};
 ghost use Rattle.qasm_parse.specs.Small.{IsSmallSpan};
-ghost use Rattle.qasm_parse.specs.Known.{quantum_named};
-ghost use Rattle.qasm_parse.specs.Meets.{Meets};
-ghost use Rattle.qasm_parse.specs.Faults.{first_fault, name_place, past_end, meant, argument_faults, all_meant, times, has_size, meets, any_pair, call_faults};
+ghost use Rattle.qasm_parse.specs.Faults.{name_place, past_end, meant, times, has_size, meets, any_pair};
+ghost use Rattle.qasm_parse.specs.Tried.{Resolves, TriesCall, sooner, Adds};
 
 use crate::known::{Called, Known, Span};
 use crate::source::Source;
@@ -69,7 +68,7 @@ pub fn resolve(
     known: &Known,
     args: &[Argument],
 ) -> Result<Listed<Arg>, Fault>
-    ensures { Meets result (argument_faults source.now (quantum_named known.now) args.now) (all_meant source.now (quantum_named known.now) args.now) }
+    ensures { Resolves result source.now known.now args.now }
 {
     let mut means = Listed::new(alloc);
     let mut past = None;
@@ -101,8 +100,9 @@ fn add_meant(
     arg: Argument,
 ) -> Result<Option<Stop>, Memory>
     requires { IsSmallSpan span }
-    ensures first { IfOk result (λ now. now ≡ first_fault (past ∷ past_end source.now (Some span) arg ∷ [])) }
-    ensures added { IfOk result (λ now. now ≡ None → means.new ≡ means.old ++ meant source.now (Some span) arg ∷ []) }
+    ensures first { IfOk result (λ now. now ≡ sooner past (past_end source.now (Some span) arg)) }
+    ensures added { IfOk result (λ now. now ≡ None
+        → Adds means.old means.new (meant source.now (Some span) arg)) }
 {
     if past.is_some() {
         return Ok(past);
@@ -216,7 +216,7 @@ pub fn try_args(
     called: Called,
     args: &[Argument],
 ) -> Result<Listed<Arg>, Fault>
-    ensures { Meets result (call_faults source.now known.now at called args.now) (all_meant source.now (quantum_named known.now) args.now) }
+    ensures { TriesCall result source.now known.now at called args.now }
 {
     let means = resolve(alloc, source, known, args)?;
     if args.len() != called.arity as usize {

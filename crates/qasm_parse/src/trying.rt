@@ -1,11 +1,10 @@
 //! Trying the names of a statement.
 
-ghost use Rattle.std.specs.Prelude.{◌≡◌, ◌≤◌, ◌+◌, ◌||◌, nat_le, nat_lt, true, false, None, IfOk};
+ghost use Rattle.std.specs.Prelude.{◌≡◌, ◌≤◌, ◌+◌, ◌||◌, nat_le, nat_lt, true, false, IfOk};
 ghost use Rattle.qasm_parse.specs.Meets.{Meets, IsOnly};
-ghost use Rattle.qasm_parse.specs.Faults.{include_faults, register_faults, faults, fit_together};
-ghost use Rattle.qasm_parse.specs.Known.{place_of};
-ghost use Rattle.qasm_parse.specs.Lexed.{word_at, number_at};
-ghost use Rattle.qasm_parse.specs.Behind.{behind, declared_at, with_statement, first_of};
+ghost use Rattle.qasm_parse.specs.Faults.{include_faults, fit_together};
+ghost use Rattle.qasm_parse.specs.Tried.{Tries, TriesRegister, IsNew};
+ghost use Rattle.qasm_parse.specs.Behind.{declared_at, with_statement, first_of};
 
 use crate::definitions::{define, find_gate};
 use crate::gates::{cx, pauli_of};
@@ -41,8 +40,8 @@ fn register(
     name: usize,
     size: usize,
 ) -> Result<u32, Fault>
-    ensures value { Meets result (register_faults source.now known.now at name size) (number_at source.now size) }
-    ensures new { IfOk result (λ members. place_of known.now.names (word_at source.now name) ≡ None) }
+    ensures value { TriesRegister result source.now known.now at name size }
+    ensures new { IfOk result (λ members. IsNew source.now known.now name) }
 {
     if known.is_declared(source.word(name)) {
         return Err(Fault::Stopping(Stop {
@@ -81,7 +80,7 @@ fn quantum(
     name: usize,
     size: usize,
 ) -> Result<Known, Fault>
-    ensures { Meets result (faults source.now known at (Sentence.Qreg name size)) (behind source.now known at (Sentence.Qreg name size)) }
+    ensures { Tries result source.now known at (Sentence.Qreg name size) }
 {
     let members = register(source, &known, at, name, size)?;
     if known.qubits as u64 + members as u64 > QUBITS as u64 {
@@ -117,7 +116,7 @@ fn classical(
     name: usize,
     size: usize,
 ) -> Result<Known, Fault>
-    ensures { Meets result (faults source.now known at (Sentence.Creg name size)) (behind source.now known at (Sentence.Creg name size)) }
+    ensures { Tries result source.now known at (Sentence.Creg name size) }
 {
     let members = register(source, &known, at, name, size)?;
     if too_many_bits(known.tree.classical.as_slice().len(), known.bits, members) {
@@ -144,7 +143,7 @@ fn named_call(
     at: usize,
     call: &GateCall,
 ) -> Result<Known, Fault>
-    ensures { Meets result (faults source.now known at (Sentence.Call call.now)) (behind source.now known at (Sentence.Call call.now)) }
+    ensures { Tries result source.now known at (Sentence.Call call.now) }
 {
     let called = find_gate(source, &known, call.name)?;
     let args = try_args(alloc, source, &known, at, called, call.args.as_slice())?;
@@ -166,7 +165,7 @@ fn conditional(
     value: usize,
     call: &GateCall,
 ) -> Result<Known, Fault>
-    ensures { Meets result (faults source.now known at (Sentence.If register value call.now)) (behind source.now known at (Sentence.If register value call.now)) }
+    ensures { Tries result source.now known at (Sentence.If register value call.now) }
 {
     let word = source.word(call.name);
     if known.is_own_gate(word) {
@@ -199,25 +198,18 @@ fn conditional(
 fn first_arg(args: &[Arg]) -> Arg
     ensures { result ≡ first_of args.now }
 {
-    if args.is_empty() {
-        return Arg::Single { index: 0 };
-    }
-    args[0]
+    args.first().copied().unwrap_or(Arg::Single { index: 0 })
 }
 
 // Whether a measurement's sides fit together: both single, or both whole and of one size.
 fn fit_together(from: Arg, to: Arg) -> bool
     ensures { result ≡ fit_together from to }
 {
-    match from {
-        Arg::Whole { size, .. } => match to {
-            Arg::Whole { size: bits, .. } => size == bits,
-            Arg::Single { .. } => false,
-        },
-        Arg::Single { .. } => match to {
-            Arg::Whole { .. } => false,
-            Arg::Single { .. } => true,
-        },
+    match (from, to) {
+        (Arg::Whole { size, .. }, Arg::Whole { size: bits, .. }) => size == bits,
+        (Arg::Whole { .. }, Arg::Single { .. }) => false,
+        (Arg::Single { .. }, Arg::Whole { .. }) => false,
+        (Arg::Single { .. }, Arg::Single { .. }) => true,
     }
 }
 
@@ -229,7 +221,7 @@ fn measure(
     from: Argument,
     to: Argument,
 ) -> Result<Known, Fault>
-    ensures { Meets result (faults source.now known at (Sentence.Measure from to)) (behind source.now known at (Sentence.Measure from to)) }
+    ensures { Tries result source.now known at (Sentence.Measure from to) }
 {
     let name = name_place(from);
     let qubits = match known.quantum(source.word(name)) {
@@ -283,7 +275,7 @@ fn cx_call(
     at: usize,
     args: &[Argument],
 ) -> Result<Known, Fault>
-    ensures { Meets result (faults source.now known at (Sentence.Cx args.now)) (behind source.now known at (Sentence.Cx args.now)) }
+    ensures { Tries result source.now known at (Sentence.Cx args.now) }
 {
     let args = try_args(alloc, source, &known, at, cx(), args)?;
     let statement = Statement::Call {
@@ -302,7 +294,7 @@ fn barrier(
     at: usize,
     args: &[Argument],
 ) -> Result<Known, Fault>
-    ensures { Meets result (faults source.now known at (Sentence.Barrier args.now)) (behind source.now known at (Sentence.Barrier args.now)) }
+    ensures { Tries result source.now known at (Sentence.Barrier args.now) }
 {
     resolve(alloc, source, &known, args)?;
     let statement = Statement::Barrier {
@@ -319,7 +311,7 @@ fn reset(
     at: usize,
     arg: Argument,
 ) -> Result<Known, Fault>
-    ensures { Meets result (faults source.now known at (Sentence.Reset arg)) (behind source.now known at (Sentence.Reset arg)) }
+    ensures { Tries result source.now known at (Sentence.Reset arg) }
 {
     let args = resolve(alloc, source, &known, &[arg])?;
     let statement = Statement::Reset {
@@ -343,14 +335,14 @@ pub fn try_sentence(
     source: &Source<'_>,
     known: Known,
     at: usize,
-    sentence: &Sentence,
+    sentence: Sentence,
 ) -> Result<Known, Fault>
-    ensures { Meets result (faults source.now known at sentence.now) (behind source.now known at sentence.now) }
+    ensures { Tries result source.now known at sentence }
 {
     match sentence {
         Sentence::Include => include(known, at),
-        Sentence::Qreg { name, size } => quantum(alloc, source, known, at, *name, *size),
-        Sentence::Creg { name, size } => classical(alloc, source, known, at, *name, *size),
+        Sentence::Qreg { name, size } => quantum(alloc, source, known, at, name, size),
+        Sentence::Creg { name, size } => classical(alloc, source, known, at, name, size),
         Sentence::Gate {
             name,
             formals,
@@ -361,19 +353,19 @@ pub fn try_sentence(
             source,
             known,
             at,
-            *name,
+            name,
             formals.as_slice(),
             body.as_slice(),
         ),
-        Sentence::Call { call } => named_call(alloc, source, known, at, call),
+        Sentence::Call { call } => named_call(alloc, source, known, at, &call),
         Sentence::If {
             register,
             value,
             call,
-        } => conditional(alloc, source, known, at, *register, *value, call),
+        } => conditional(alloc, source, known, at, register, value, &call),
         Sentence::Cx { args } => cx_call(alloc, source, known, at, args.as_slice()),
-        Sentence::Measure { from, to } => measure(source, known, at, *from, *to),
+        Sentence::Measure { from, to } => measure(source, known, at, from, to),
         Sentence::Barrier { args } => barrier(alloc, source, known, at, args.as_slice()),
-        Sentence::Reset { arg } => reset(alloc, source, known, at, *arg),
+        Sentence::Reset { arg } => reset(alloc, source, known, at, arg),
     }
 }

@@ -35,45 +35,5 @@ reading-preserved c =
     (rw (← c.deref-in-reading.ensures.value) c.in_ok-sentence.ensures.spelled)
     c.in_ok-known.ensures c.in_ok-found-2.ensures
 
-pub reading-preserved-in_ok-found-2 : goal.reading-preserved-in_ok-found-2
-reading-preserved-in_ok-found-2 c =
-    standing_next c.args.source.now c.reading.found.items c.in_ok-found-2.found.items c.reading.known c.in_ok-known.known c.reading.at c.in_ok-sentence.end c.in_ok-sentence.sentence c.reading.invariant
-    (rw (← c.deref-in-reading.ensures.value) c.in_ok-sentence.ensures.within.1)
-    (rw (← c.deref-in-reading.ensures.value) (c.in_ok-sentence.ensures.form done refl))
-    (rw (← c.deref-in-reading.ensures.value) c.in_ok-sentence.ensures.spelled)
-    c.in_ok-known.ensures c.in_ok-found-2.ensures
-
-pub reading-preserved-in_ok-found-2-2 : goal.reading-preserved-in_ok-found-2-2
-reading-preserved-in_ok-found-2-2 c =
-    standing_next c.args.source.now c.reading.found.items c.in_ok-found-2.found.items c.reading.known c.in_ok-known.known c.reading.at c.in_ok-sentence.end c.in_ok-sentence.sentence c.reading.invariant
-    (rw (← c.deref-in-reading.ensures.value) c.in_ok-sentence.ensures.within.1)
-    (rw (← c.deref-in-reading.ensures.value) (c.in_ok-sentence.ensures.form done refl))
-    (rw (← c.deref-in-reading.ensures.value) c.in_ok-sentence.ensures.spelled)
-    c.in_ok-known.ensures c.in_ok-found-2.ensures
-
-pub reading-preserved-in_ok-found-2-3 : goal.reading-preserved-in_ok-found-2-3
-reading-preserved-in_ok-found-2-3 c =
-    standing_next c.args.source.now c.reading.found.items c.in_ok-found-2.found.items c.reading.known c.in_ok-known.known c.reading.at c.in_ok-sentence.end c.in_ok-sentence.sentence c.reading.invariant
-    (rw (← c.deref-in-reading.ensures.value) c.in_ok-sentence.ensures.within.1)
-    (rw (← c.deref-in-reading.ensures.value) (c.in_ok-sentence.ensures.form done refl))
-    (rw (← c.deref-in-reading.ensures.value) c.in_ok-sentence.ensures.spelled)
-    c.in_ok-known.ensures c.in_ok-found-2.ensures
-
-pub reading-preserved-in_ok-found-2-4 : goal.reading-preserved-in_ok-found-2-4
-reading-preserved-in_ok-found-2-4 c =
-    standing_next c.args.source.now c.reading.found.items c.in_ok-found-2.found.items c.reading.known c.in_ok-known.known c.reading.at c.in_ok-sentence.end c.in_ok-sentence.sentence c.reading.invariant
-    (rw (← c.deref-in-reading.ensures.value) c.in_ok-sentence.ensures.within.1)
-    (rw (← c.deref-in-reading.ensures.value) (c.in_ok-sentence.ensures.form done refl))
-    (rw (← c.deref-in-reading.ensures.value) c.in_ok-sentence.ensures.spelled)
-    c.in_ok-known.ensures c.in_ok-found-2.ensures
-
-pub reading-preserved-in_ok-found-2-5 : goal.reading-preserved-in_ok-found-2-5
-reading-preserved-in_ok-found-2-5 c =
-    standing_next c.args.source.now c.reading.found.items c.in_ok-found-2.found.items c.reading.known c.in_ok-known.known c.reading.at c.in_ok-sentence.end c.in_ok-sentence.sentence c.reading.invariant
-    (rw (← c.deref-in-reading.ensures.value) c.in_ok-sentence.ensures.within.1)
-    (rw (← c.deref-in-reading.ensures.value) (c.in_ok-sentence.ensures.form done refl))
-    (rw (← c.deref-in-reading.ensures.value) c.in_ok-sentence.ensures.spelled)
-    c.in_ok-known.ensures c.in_ok-found-2.ensures
-
 pub returns : goal.returns
 returns c = standing_last c.args.source.now c.reading.found.items c.reading.known c.reading.at c.reading.invariant (rw (← c.as_slice.ensures.value) c.reading-test.false)
