@@ -1,5 +1,5 @@
 -- A claim's cells one by one, and the tables of holders.
-use Rattle.std.proofs.Common.{◌≡◌, ◌≢◌, ◌↔◌, ◌⊎◌, inl, inr, ℕ, zero, suc, ◌+◌, ◌-◌, ◌<◌, ◌≤◌, Bool, true, false, nat_lt, if◌then◌else◌, List, [], ◌∷◌, length, All, Option, Some, None, slice_get, get_or, refl, ap, sym, ◌∙◌, arith, subst}
+use Rattle.std.proofs.Common.{◌≡◌, ◌≢◌, ◌↔◌, ◌⊎◌, inl, inr, ℕ, zero, suc, ◌+◌, ◌<◌, Bool, true, false, nat_lt, if◌then◌else◌, List, [], ◌∷◌, length, All, Option, Some, None, slice_get, get_or, refl, ap, sym, ◌∙◌, arith, subst}
 use Rattle.std.specs.Option.{unwrap_or}
 use Rattle.std.proofs.Math.ListN.{set, length-set}
 use Rattle.std.proofs.lemmas.Bool.{cases_eq, cases_lt, ltb-true, ltb-false}
@@ -12,34 +12,43 @@ use Rattle.board_core.specs.Legal.{ClaimCell}
 use Rattle.board_core.specs.Cells.{IsCellAt, IsCellBelow, Taken, LeastTaken, given_to, better_of, lesser}
 
 -- ---- the cells by number
-module _ (g : Grid) (axis : Signed) (through : Option ℕ) (cells : List ℕ) (number : ℕ) (result : Option ℕ) (past : length cells ≤ number) where
-  pub cell_is_patch : (letters : number - length cells < length axis.letters) → ((c : ℕ) → (result ≡ Some c) ↔ ((l : Letter) × (slice_get axis.letters (number - length cells) ≡ Some l) × (l ≢ I) × IsPatch g (number - length cells) c)) → (c : ℕ) → (result ≡ Some c) ↔ IsCellAt g axis through cells number c
-  cell_is_patch few here c =
-      (λ e. let x = (here c).0 e in inr (inl (number - length cells, x.0, (let s : number ≡ length cells + (number - length cells) = omega arith in s), x.1, x.2, x.3)), from)
+module _ (g : Grid) (axis : Signed) (through : Option ℕ) (cells : List ℕ) where
+  pub cell_is_region : (n d : ℕ) → slice_get cells n ≡ Some d → (c : ℕ) → (Some d ≡ Some c) ↔ IsCellAt g axis through cells n c
+  cell_is_region n d here c = (λ e. inl (here ∙ e), from)
     where
-      from : IsCellAt g axis through cells number c → result ≡ Some c
-      from (inl e) = let l = slice_get_within cells number c e in absurd (omega arith)
+      from : IsCellAt g axis through cells n c → Some d ≡ Some c
+      from (inl e) = sym here ∙ e
+      from (inr (inl x)) = let l = slice_get_within cells n d here in absurd (omega (arith, x.2))
+      from (inr (inr x)) = let l = slice_get_within cells n d here in absurd (omega (arith, x.1))
+
+  pub cell_is_patch : (qubit : ℕ) (result : Option ℕ) → qubit < length axis.letters → ((c : ℕ) → (result ≡ Some c) ↔ ((l : Letter) × (slice_get axis.letters qubit ≡ Some l) × (l ≢ I) × IsPatch g qubit c)) → (c : ℕ) → (result ≡ Some c) ↔ IsCellAt g axis through cells (length cells + qubit) c
+  cell_is_patch qubit result few here c = (λ e. let x = (here c).0 e in inr (inl (qubit, x.0, refl, x.1, x.2, x.3)), from)
+    where
+      from : IsCellAt g axis through cells (length cells + qubit) c → result ≡ Some c
+      from (inl e) = let l = slice_get_within cells (length cells + qubit) c e in absurd (omega arith)
       from (inr (inl x)) =
-          let s : x.0 ≡ number - length cells = omega (arith, x.2) in
+          let s : x.0 ≡ qubit = omega (arith, x.2) in
           (here c).1 (x.1, subst (λ q. slice_get axis.letters q ≡ Some x.1) s x.3, x.4, subst (λ q. IsPatch g q c) s x.5)
       from (inr (inr x)) = absurd (omega (arith, x.1))
 
-  pub cell_is_port : number - length cells ≡ length axis.letters → ((c : ℕ) → (result ≡ Some c) ↔ ((f : ℕ) × (through ≡ Some f) × IsPort g f c)) → (c : ℕ) → (result ≡ Some c) ↔ IsCellAt g axis through cells number c
-  cell_is_port last here c =
-      (λ e. let x = (here c).0 e in inr (inr (x.0, (let s : number ≡ length cells + length axis.letters = omega arith in s), x.1, x.2)), from)
+  pub cell_is_port : (result : Option ℕ) → ((c : ℕ) → (result ≡ Some c) ↔ ((f : ℕ) × (through ≡ Some f) × IsPort g f c)) → (c : ℕ) → (result ≡ Some c) ↔ IsCellAt g axis through cells (length cells + length axis.letters) c
+  cell_is_port result here c = (λ e. let x = (here c).0 e in inr (inr (x.0, refl, x.1, x.2)), from)
     where
-      from : IsCellAt g axis through cells number c → result ≡ Some c
-      from (inl e) = let l = slice_get_within cells number c e in absurd (omega arith)
+      from : IsCellAt g axis through cells (length cells + length axis.letters) c → result ≡ Some c
+      from (inl e) = let l = slice_get_within cells (length cells + length axis.letters) c e in absurd (omega arith)
       from (inr (inl x)) = let l = slice_get_within axis.letters x.0 x.1 x.3 in absurd (omega (arith, x.2))
       from (inr (inr x)) = (here c).1 (x.0, x.2, x.3)
 
-  pub cell_is_none : length axis.letters < number - length cells → (c : ℕ) → (◌≡◌ {A = Option ℕ} None (Some c)) ↔ IsCellAt g axis through cells number c
-  cell_is_none over c = (λ e. absurd (none-some c e), from)
-    where
-      from : IsCellAt g axis through cells number c → ◌≡◌ {A = Option ℕ} None (Some c)
-      from (inl e) = let l = slice_get_within cells number c e in absurd (omega arith)
-      from (inr (inl x)) = let l = slice_get_within axis.letters x.0 x.1 x.3 in absurd (omega (arith, x.2))
-      from (inr (inr x)) = absurd (omega (arith, x.1))
+-- what a list has lies where all of it does
+pub within_all : (n : ℕ) (cells : List ℕ) (k d : ℕ) → All (λ c. c < n) cells → slice_get cells k ≡ Some d → d < n
+within_all n cells k d all e = subst (λ x. x < n) (get_or_from_slice_get cells k d d e) (all k d (slice_get_within cells k d e))
+
+-- a patch lies on the grid, and so does a port
+pub patch_within : (g : Grid) (axis : Signed) (qubit : ℕ) (result : Option ℕ) → ((c : ℕ) → (result ≡ Some c) ↔ ((l : Letter) × (slice_get axis.letters qubit ≡ Some l) × (l ≢ I) × IsPatch g qubit c)) → (c : ℕ) → result ≡ Some c → c < length g.sites
+patch_within g axis qubit result here c e = slice_get_within g.sites c _ ((here c).0 e).3.1
+
+pub port_within : (g : Grid) (through result : Option ℕ) → ((c : ℕ) → (result ≡ Some c) ↔ ((f : ℕ) × (through ≡ Some f) × IsPort g f c)) → (c : ℕ) → result ≡ Some c → c < length g.sites
+port_within g through result here c e = slice_get_within g.sites c _ ((here c).0 e).2.2
 
 -- all of them are the claim's cells
 pub all_cells : (g : Grid) (axis : Signed) (through : Option ℕ) (cells : List ℕ) (c : ℕ) → IsCellBelow g axis through cells (length cells + length axis.letters + 1) c ↔ ClaimCell g axis through cells c
@@ -54,14 +63,6 @@ all_cells g axis through cells c = (to, from)
     from (inl x) = let l = x.1 in (x.0, omega arith, inl (slice_get-get_or cells x.0 c x.1 ∙ ap Some x.2))
     from (inr (inl x)) = let l = slice_get_within axis.letters x.0 x.1 x.4 in (length cells + x.0, omega arith, inr (inl (x.0, x.1, refl, x.4, x.5, (x.2, x.3))))
     from (inr (inr x)) = (length cells + length axis.letters, omega arith, inr (inr (x.0, refl, x.4, (x.1, x.2, x.3))))
-
--- a claim's cell lies on the grid, where its region does
-pub cell_within : (g : Grid) (axis : Signed) (through : Option ℕ) (cells : List ℕ) (k c : ℕ) → All (λ c. c < length g.sites) cells → IsCellAt g axis through cells k c → c < length g.sites
-cell_within g axis through cells k c all (inl e) =
-    let here = all k c (slice_get_within cells k c e) in
-    subst (λ x. x < length g.sites) (get_or_from_slice_get cells k c c e) here
-cell_within g axis through cells k c all (inr (inl x)) = slice_get_within g.sites c _ x.5.1
-cell_within g axis through cells k c all (inr (inr x)) = slice_get_within g.sites c _ x.3.2
 
 -- one number more
 below_more : (g : Grid) (axis : Signed) (through : Option ℕ) (cells : List ℕ) (n c : ℕ) → IsCellBelow g axis through cells (n + 1) c ↔ (IsCellBelow g axis through cells n c ⊎ IsCellAt g axis through cells n c)
@@ -93,6 +94,10 @@ get_set_other (x ∷ xs) (suc i) (suc k) v ne = get_set_other xs i k v (λ e. ne
 taken_same : (P Q : ℕ → Type 0) (by : ℕ) (old new : List (Option ℕ)) → ((c : ℕ) → P c ↔ Q c) → Taken P by old new → Taken Q by old new
 taken_same P Q by old new same t =
     (t.0, λ c l. elim (t.1 c l) [ inl x ↦ inl ((same c).0 x.0, x.1) | inr x ↦ inr ((λ q. x.0 ((same c).1 q)), x.1) ])
+
+pub length_given : (cell : Option ℕ) (by : ℕ) (holders : List (Option ℕ)) → length (given_to cell by holders) ≡ length holders
+length_given None by holders = refl
+length_given (Some c) by holders = length-set holders c (Some by)
 
 -- one cell more
 taken_more : (P : ℕ → Type 0) (by : ℕ) (old new : List (Option ℕ)) (cell : Option ℕ) → ((c : ℕ) → cell ≡ Some c → c < length old) → Taken P by old new → Taken (λ c. P c ⊎ (cell ≡ Some c)) by old (given_to cell by new)
@@ -143,21 +148,53 @@ module _ (g : Grid) (axis : Signed) (through : Option ℕ) (cells : List ℕ) wh
     λ x. elim ((below_more g axis through cells n c).0 x) [ inl b ↦ inl b | inr a ↦ inr ((here c).1 a) ],
   )
 
-  pub take_next : (by n : ℕ) (old new : List (Option ℕ)) (cell : Option ℕ) → length old ≡ length g.sites → All (λ c. c < length g.sites) cells → ((c : ℕ) → (cell ≡ Some c) ↔ IsCellAt g axis through cells n c) → Taken (IsCellBelow g axis through cells n) by old new → Taken (IsCellBelow g axis through cells (n + 1)) by old (given_to cell by new)
-  take_next by n old new cell size all here t =
+  take_next : (by n : ℕ) (old new : List (Option ℕ)) (cell : Option ℕ) → ((c : ℕ) → cell ≡ Some c → c < length old) → ((c : ℕ) → (cell ≡ Some c) ↔ IsCellAt g axis through cells n c) → Taken (IsCellBelow g axis through cells n) by old new → Taken (IsCellBelow g axis through cells (n + 1)) by old (given_to cell by new)
+  take_next by n old new cell within here t =
       taken_same (λ c. IsCellBelow g axis through cells n c ⊎ (cell ≡ Some c)) (IsCellBelow g axis through cells (n + 1)) by old (given_to cell by new) (joins n cell here)
-      (taken_more (IsCellBelow g axis through cells n) by old new cell (λ c e. let w = cell_within g axis through cells n c all ((here c).0 e) in omega arith) t)
+      (taken_more (IsCellBelow g axis through cells n) by old new cell within t)
 
-  pub take_end : (by n : ℕ) (old new : List (Option ℕ)) → n ≡ length cells + length axis.letters + 1 → Taken (IsCellBelow g axis through cells n) by old new → Taken (ClaimCell g axis through cells) by old new
-  take_end by n old new e t = taken_same (IsCellBelow g axis through cells n) (ClaimCell g axis through cells) by old new (λ c. rw e (all_cells g axis through cells c)) t
+  pub take_end : (by : ℕ) (old new : List (Option ℕ)) → Taken (IsCellBelow g axis through cells (length cells + length axis.letters + 1)) by old new → Taken (ClaimCell g axis through cells) by old new
+  take_end by old new t = taken_same (IsCellBelow g axis through cells (length cells + length axis.letters + 1)) (ClaimCell g axis through cells) by old new (all_cells g axis through cells) t
 
-  pub least_next : (n : ℕ) (holders : List (Option ℕ)) (best : Option (ℕ × ℕ)) (cell : Option ℕ) → length holders ≡ length g.sites → All (λ c. c < length g.sites) cells → ((c : ℕ) → (cell ≡ Some c) ↔ IsCellAt g axis through cells n c) → LeastTaken (IsCellBelow g axis through cells n) holders best → LeastTaken (IsCellBelow g axis through cells (n + 1)) holders (better_of best cell holders)
-  least_next n holders best cell size all here t =
+  least_next : (n : ℕ) (holders : List (Option ℕ)) (best : Option (ℕ × ℕ)) (cell : Option ℕ) → ((c : ℕ) → cell ≡ Some c → c < length holders) → ((c : ℕ) → (cell ≡ Some c) ↔ IsCellAt g axis through cells n c) → LeastTaken (IsCellBelow g axis through cells n) holders best → LeastTaken (IsCellBelow g axis through cells (n + 1)) holders (better_of best cell holders)
+  least_next n holders best cell within here t =
       least_same (λ c. IsCellBelow g axis through cells n c ⊎ (cell ≡ Some c)) (IsCellBelow g axis through cells (n + 1)) holders (better_of best cell holders) (joins n cell here)
-      (least_more (IsCellBelow g axis through cells n) holders best cell (λ c e. let w = cell_within g axis through cells n c all ((here c).0 e) in omega arith) t)
+      (least_more (IsCellBelow g axis through cells n) holders best cell within t)
 
-  pub least_end : (n : ℕ) (holders : List (Option ℕ)) (best : Option (ℕ × ℕ)) → n ≡ length cells + length axis.letters + 1 → LeastTaken (IsCellBelow g axis through cells n) holders best → LeastTaken (ClaimCell g axis through cells) holders best
-  least_end n holders best e t = least_same (IsCellBelow g axis through cells n) (ClaimCell g axis through cells) holders best (λ c. rw e (all_cells g axis through cells c)) t
+  pub least_end : (holders : List (Option ℕ)) (best : Option (ℕ × ℕ)) → LeastTaken (IsCellBelow g axis through cells (length cells + length axis.letters + 1)) holders best → LeastTaken (ClaimCell g axis through cells) holders best
+  least_end holders best t = least_same (IsCellBelow g axis through cells (length cells + length axis.letters + 1)) (ClaimCell g axis through cells) holders best (all_cells g axis through cells) t
 
-  pub cell_in : (n : ℕ) (holders : List (Option ℕ)) (cell : Option ℕ) → length holders ≡ length g.sites → All (λ c. c < length g.sites) cells → ((c : ℕ) → (cell ≡ Some c) ↔ IsCellAt g axis through cells n c) → (c : ℕ) → cell ≡ Some c → c < length holders
-  cell_in n holders cell size all here c e = let w = cell_within g axis through cells n c all ((here c).0 e) in omega arith
+  -- a region's cell, a patch, and the port
+  pub take_region_next : (by n d : ℕ) (old new after : List (Option ℕ)) → after ≡ set new d (Some by) → slice_get cells n ≡ Some d → All (λ c. c < length old) cells → Taken (IsCellBelow g axis through cells n) by old new → Taken (IsCellBelow g axis through cells (n + 1)) by old after
+  take_region_next by n d old new after e here all t =
+      subst (λ (h : List (Option ℕ)). Taken (IsCellBelow g axis through cells (n + 1)) by old h) (sym e)
+      (take_next by n old new (Some d) (λ c s. subst (λ (x : ℕ). x < length old) (same_Some d c s) (within_all (length old) cells n d all here)) (cell_is_region g axis through cells n d here) t)
+
+  pub take_patch_next : (by qubit : ℕ) (old new after : List (Option ℕ)) (cell : Option ℕ) → after ≡ given_to cell by new → length old ≡ length g.sites → qubit < length axis.letters → ((c : ℕ) → (cell ≡ Some c) ↔ ((l : Letter) × (slice_get axis.letters qubit ≡ Some l) × (l ≢ I) × IsPatch g qubit c)) → Taken (IsCellBelow g axis through cells (length cells + qubit)) by old new → Taken (IsCellBelow g axis through cells (length cells + (qubit + 1))) by old after
+  take_patch_next by qubit old new after cell e size few here t =
+      subst (λ (h : List (Option ℕ)). Taken (IsCellBelow g axis through cells (length cells + (qubit + 1))) by old h) (sym e)
+      (subst (λ (n : ℕ). Taken (IsCellBelow g axis through cells n) by old (given_to cell by new)) (let n : (length cells + qubit) + 1 ≡ length cells + (qubit + 1) = omega arith in n)
+      (take_next by (length cells + qubit) old new cell (λ c s. let w = patch_within g axis qubit cell here c s in omega arith) (cell_is_patch g axis through cells qubit cell few here) t))
+
+  pub take_port : (by : ℕ) (old new after : List (Option ℕ)) (cell : Option ℕ) → after ≡ given_to cell by new → length old ≡ length g.sites → ((c : ℕ) → (cell ≡ Some c) ↔ ((f : ℕ) × (through ≡ Some f) × IsPort g f c)) → Taken (IsCellBelow g axis through cells (length cells + length axis.letters)) by old new → Taken (ClaimCell g axis through cells) by old after
+  take_port by old new after cell e size here t =
+      subst (λ (h : List (Option ℕ)). Taken (ClaimCell g axis through cells) by old h) (sym e)
+      (take_end by old (given_to cell by new)
+      (take_next by (length cells + length axis.letters) old new cell (λ c s. let w = port_within g through cell here c s in omega arith) (cell_is_port g axis through cells cell here) t))
+
+  pub least_region_next : (n d : ℕ) (holders : List (Option ℕ)) (best after : Option (ℕ × ℕ)) → after ≡ better_of best (Some d) holders → slice_get cells n ≡ Some d → All (λ c. c < length holders) cells → LeastTaken (IsCellBelow g axis through cells n) holders best → LeastTaken (IsCellBelow g axis through cells (n + 1)) holders after
+  least_region_next n d holders best after e here all t =
+      subst (λ (o : Option (ℕ × ℕ)). LeastTaken (IsCellBelow g axis through cells (n + 1)) holders o) (sym e)
+      (least_next n holders best (Some d) (λ c s. subst (λ (x : ℕ). x < length holders) (same_Some d c s) (within_all (length holders) cells n d all here)) (cell_is_region g axis through cells n d here) t)
+
+  pub least_patch_next : (qubit : ℕ) (holders : List (Option ℕ)) (best after : Option (ℕ × ℕ)) (cell : Option ℕ) → after ≡ better_of best cell holders → length holders ≡ length g.sites → qubit < length axis.letters → ((c : ℕ) → (cell ≡ Some c) ↔ ((l : Letter) × (slice_get axis.letters qubit ≡ Some l) × (l ≢ I) × IsPatch g qubit c)) → LeastTaken (IsCellBelow g axis through cells (length cells + qubit)) holders best → LeastTaken (IsCellBelow g axis through cells (length cells + (qubit + 1))) holders after
+  least_patch_next qubit holders best after cell e size few here t =
+      subst (λ (o : Option (ℕ × ℕ)). LeastTaken (IsCellBelow g axis through cells (length cells + (qubit + 1))) holders o) (sym e)
+      (subst (λ (n : ℕ). LeastTaken (IsCellBelow g axis through cells n) holders (better_of best cell holders)) (let n : (length cells + qubit) + 1 ≡ length cells + (qubit + 1) = omega arith in n)
+      (least_next (length cells + qubit) holders best cell (λ c s. let w = patch_within g axis qubit cell here c s in omega arith) (cell_is_patch g axis through cells qubit cell few here) t))
+
+  pub least_port : (holders : List (Option ℕ)) (best after : Option (ℕ × ℕ)) (cell : Option ℕ) → after ≡ better_of best cell holders → length holders ≡ length g.sites → ((c : ℕ) → (cell ≡ Some c) ↔ ((f : ℕ) × (through ≡ Some f) × IsPort g f c)) → LeastTaken (IsCellBelow g axis through cells (length cells + length axis.letters)) holders best → LeastTaken (ClaimCell g axis through cells) holders after
+  least_port holders best after cell e size here t =
+      subst (λ (o : Option (ℕ × ℕ)). LeastTaken (ClaimCell g axis through cells) holders o) (sym e)
+      (least_end holders (better_of best cell holders)
+      (least_next (length cells + length axis.letters) holders best cell (λ c s. let w = port_within g through cell here c s in omega arith) (cell_is_port g axis through cells cell here) t))

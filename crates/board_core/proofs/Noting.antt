@@ -74,10 +74,6 @@ now_claimed j h t p s k e claimed once =
     c.1 ∙ ap Some (sym (axis_stays k.limits.qubits j h p c.0 s k.limits.axes_fit k.legal e c.1 once))
 
 -- ---- a release
-pub freed_back : (p : ℕ) (t was now after : List (Option ℕ)) → was ≡ t → after ≡ now → ((c : ℕ) → slice_get now c ≡ option_map (without p) (slice_get was c)) → (c : ℕ) → slice_get after c ≡ option_map (without p) (slice_get t c)
-freed_back p t was now after a b w c =
-    ap (λ (x : List (Option ℕ)). slice_get x c) b ∙ w c ∙ ap (λ (x : List (Option ℕ)). option_map (without p) (slice_get x c)) a
-
 pub release_noted : (j : Job) (h : History) (p place : ℕ) (t : Tables) (standings : List Standing) (holders : List (Option ℕ)) → Kept j h t → Allowed j h (Release p) → place ≡ length h → ((s : Standing) → slice_get t.standings p ≡ Some s → standings ≡ set t.standings p (record s { release = Some place })) → length holders ≡ length t.holders → ((c : ℕ) → slice_get holders c ≡ option_map (without p) (slice_get t.holders c)) → Kept j (h ++ Release p ∷ []) (record t { holders = holders; standings = standings })
 release_noted j h p place t standings holders k a is ws size freed =
     let l = release_within j h p k.legal a in
@@ -87,9 +83,6 @@ release_noted j h p place t standings holders k a is ws size freed =
     (release_keeps j h p t st.0 holders k a st.1 l size freed)
 
 -- ---- a claim
-pub taken_back : (P : ℕ → Type 0) (by : ℕ) (t was now after : List (Option ℕ)) → was ≡ t → after ≡ now → Taken P by was now → Taken P by t after
-taken_back P by t was now after a b w = subst (λ (x : List (Option ℕ)). Taken P by x after) a (subst (λ (x : List (Option ℕ)). Taken P by was x) (sym b) w)
-
 pub claim_noted : (j : Job) (h : History) (p place : ℕ) (axis : Signed) (through state : Option ℕ) (cells : List ℕ) (t : Tables) (standings : List Standing) (holders : List (Option ℕ)) (pool : Pooled) → Kept j h t → Allowed j h (Claim p axis through state cells) → place ≡ length h → ((s : Standing) → slice_get t.standings p ≡ Some s → standings ≡ set t.standings p (record s { claim = Some place })) → Taken (ClaimCell j.grid axis through cells) p t.holders holders → pool.fails ≡ t.pool.fails → pool.makers ≡ t.pool.makers → ((made taken : List ℕ) → Recounts t.pool made taken → Recounts pool made (taken ++ option_to_list state)) → Kept j (h ++ Claim p axis through state cells ∷ []) (record t { holders = holders; pool = pool; standings = standings })
 claim_noted j h p place axis through state cells t standings holders pool k a is ws taken fails makers recounts =
     let l = slice_get_within j.products p a.product.0 a.product.1 in

@@ -53,7 +53,8 @@ fn after_write(bit: Written, by: u32, value: bool) -> Written
 pub fn write_bit(bits: &mut [Written], bit: u32, by: u32, value: bool)
     requires { bit < length bits.old }
     ensures sizes { length bits.new ≡ length bits.old }
-    ensures written { (w : WrittenBit) → slice_get bits.old bit ≡ Some w → bits.new ≡ slice_set bits.old bit (after_write w by value) }
+    ensures written { (w : WrittenBit) → slice_get bits.old bit ≡ Some w
+        → bits.new ≡ slice_set bits.old bit (after_write w by value) }
 {
     bits[bit as usize] = after_write(bits[bit as usize], by, value);
 }

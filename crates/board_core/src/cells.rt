@@ -1,19 +1,21 @@
 //! A claim's cells, and who holds them.
 
-ghost use Rattle.std.specs.Prelude.{◌≡◌, ◌≢◌, ℕ, ◌+◌, ◌<◌, ◌≤◌, ◌↔◌, length, slice_get, Some, None, All, option_map};
+ghost use Rattle.std.specs.Prelude.{◌≡◌, ◌≢◌, ℕ, ◌+◌, ◌<◌, ◌≤◌, ◌↔◌, length, slice_get, Some, None, All};
 ghost use Rattle.pauli_product.specs.declared.Letter.{Letter as Letters};
 ghost use Rattle.pauli_product.specs.declared.Letter.TheVariants.{I};
-ghost use Rattle.patch_layout.specs.Grid.{IsPatch, IsPort, Sound};
+ghost use Rattle.patch_layout.specs.Grid.{IsPatch, IsPort};
 ghost use Rattle.board_core.specs.Legal.{ClaimCell};
-ghost use Rattle.board_core.specs.Cells.{IsCellAt, Taken, LeastTaken, given_to, without, better_of};
+ghost use Rattle.board_core.specs.Cells.{LeastOfRegion, LeastTaken, LeastWithPatches, PatchesTaken, RegionTaken, Taken, better_of, given_to};
 
+use crate::holders::Holders;
 use patch_layout::Layout;
 use pauli_product::{Letter, Product};
 
 /// The patch of a qubit at which the axis has a letter other than I.
 fn patch_at(layout: &Layout, axis: &Product, qubit: u32) -> Option<u32>
     requires { qubit < length axis.now.letters }
-    ensures { (c : ℕ) → (result ≡ Some c) ↔ ((l : Letters) × (slice_get axis.now.letters qubit ≡ Some l) × (l ≢ I) × IsPatch layout.now qubit c) }
+    ensures { (c : ℕ) → (result ≡ Some c) ↔ ((l : Letters)
+        × (slice_get axis.now.letters qubit ≡ Some l) × (l ≢ I) × IsPatch layout.now qubit c) }
 {
     match axis.letter(qubit) {
         Letter::I => None,
@@ -31,47 +33,35 @@ fn port_at(layout: &Layout, port: Option<u32>) -> Option<u32>
     }
 }
 
-/// The claim's cell with a number: first its region, then the patches at its letters, and then its port.
-fn cell_at(
-    layout: &Layout,
-    axis: &Product,
-    port: Option<u32>,
-    cells: &[u32],
-    number: usize,
-) -> Option<u32>
-    requires { length cells.now ≤ 4096 }
-    ensures { (c : ℕ) → (result ≡ Some c) ↔ IsCellAt layout.now axis.now port cells.now number c }
-{
-    if number < cells.len() {
-        return Some(cells[number]);
-    }
-    let qubit = number - cells.len();
-    if qubit < axis.len() as usize {
-        return patch_at(layout, axis, qubit as u32);
-    }
-    if qubit == axis.len() as usize {
-        port_at(layout, port)
-    } else {
-        None
-    }
-}
-
-/// How many numbers a claim's cells have.
-fn cell_count(axis: &Product, cells: &[u32]) -> usize
-    requires { length cells.now ≤ 4096 }
-    ensures value { result ≡ length cells.now + length axis.now.letters + 1 }
-    ensures few { result ≤ 5121 }
-{
-    cells.len() + axis.len() as usize + 1
-}
-
 /// Gives the cell, where there is one, to a product.
-fn give(cell: Option<u32>, by: u32, holders: &mut [Option<u32>])
+fn give(cell: Option<u32>, by: u32, holders: &mut Holders)
     requires { (c : ℕ) → cell ≡ Some c → c < length holders.old }
     ensures { holders.new ≡ given_to cell by holders.old }
 {
     if let Some(cell) = cell {
-        holders[cell as usize] = Some(by);
+        holders.give(cell, by);
+    }
+}
+
+/// Gives the cells of a region to a product.
+fn take_region(cells: &[u32], by: u32, holders: &mut Holders)
+    requires { All (λ c. c < length holders.old) cells.now }
+    ensures size { length holders.new ≡ length holders.old }
+    ensures taken { RegionTaken cells.now by holders.old holders.new }
+{
+    for cell in cells {
+        holders.give(*cell, by);
+    }
+}
+
+/// Gives the patches at the letters of an axis to a product.
+fn take_patches(layout: &Layout, axis: &Product, by: u32, holders: &mut Holders)
+    requires { length holders.old ≡ length layout.now.sites }
+    ensures size { length holders.new ≡ length holders.old }
+    ensures taken { PatchesTaken layout.now axis.now by holders.old holders.new }
+{
+    for qubit in 0..axis.len() {
+        give(patch_at(layout, axis, qubit), by, holders);
     }
 }
 
@@ -82,36 +72,16 @@ pub fn take_cells(
     port: Option<u32>,
     cells: &[u32],
     by: u32,
-    holders: &mut [Option<u32>],
+    holders: &mut Holders,
 )
     requires sizes { length holders.old ≡ length layout.now.sites }
     requires few { length cells.now ≤ 4096 }
     requires cells { All (λ c. c < length layout.now.sites) cells.now }
     ensures { Taken (ClaimCell layout.now axis.now port cells.now) by holders.old holders.new }
 {
-    for number in 0..cell_count(axis, cells) {
-        let cell = cell_at(layout, axis, port, cells, number);
-        give(cell, by, holders);
-    }
-}
-
-/// None where this product holds the cell.
-fn without(by: u32, holder: Option<u32>) -> Option<u32>
-    ensures { result ≡ without by holder }
-{
-    match holder {
-        Some(other) => { if other == by { None } else { Some(other) } }
-        None => None,
-    }
-}
-
-/// Takes back all cells that a product holds.
-pub fn free_cells(by: u32, holders: &mut [Option<u32>])
-    ensures { (c : ℕ) → slice_get holders.new c ≡ option_map (without by) (slice_get holders.old c) }
-{
-    for holder in holders.iter_mut() {
-        *holder = without(by, *holder);
-    }
+    take_region(cells, by, holders);
+    take_patches(layout, axis, by, holders);
+    give(port_at(layout, port), by, holders);
 }
 
 /// The lesser of the best cell so far and this one, if there is one and it is held.
@@ -141,6 +111,35 @@ fn better(
     }
 }
 
+/// The least of a region's cells that is held, and by whom.
+fn least_of_region(cells: &[u32], holders: &[Option<u32>]) -> Option<(u32, u32)>
+    requires { All (λ c. c < length holders.now) cells.now }
+    ensures { LeastOfRegion cells.now holders.now result }
+{
+    let mut best = None;
+    for cell in cells {
+        best = better(best, Some(*cell), holders);
+    }
+    best
+}
+
+/// The least of the cells so far and of the patches at the letters of an axis.
+fn least_of_patches(
+    layout: &Layout,
+    axis: &Product,
+    holders: &[Option<u32>],
+    region: Option<(u32, u32)>,
+) -> Option<(u32, u32)>
+    requires { length holders.now ≡ length layout.now.sites }
+    ensures { LeastWithPatches layout.now axis.now holders.now region result }
+{
+    let mut best = region;
+    for qubit in 0..axis.len() {
+        best = better(best, patch_at(layout, axis, qubit), holders);
+    }
+    best
+}
+
 /// The least of the claim's cells that is held, and by whom.
 pub fn least_held(
     layout: &Layout,
@@ -154,10 +153,7 @@ pub fn least_held(
     requires cells { All (λ c. c < length layout.now.sites) cells.now }
     ensures { LeastTaken (ClaimCell layout.now axis.now port cells.now) holders.now result }
 {
-    let mut best = None;
-    for number in 0..cell_count(axis, cells) {
-        let cell = cell_at(layout, axis, port, cells, number);
-        best = better(best, cell, holders);
-    }
-    best
+    let region = least_of_region(cells, holders);
+    let patches = least_of_patches(layout, axis, holders, region);
+    better(patches, port_at(layout, port), holders)
 }

@@ -16,7 +16,7 @@ ghost use Rattle.board_core.specs.Books.{HasMakersOf, standing_of};
 ghost use Rattle.board_core.specs.Uses.{IsOrderOf};
 ghost use Rattle.board_core.specs.Laws.{Agrees, ProductsOfLength};
 ghost use Rattle.board_core.specs.History.{done_place};
-ghost use Rattle.board_core.specs.View.{claimed_axis};
+ghost use Rattle.board_core.specs.View.{claimed_axis, LeastWait};
 ghost use Rattle.board_core.specs.Orders.{InSourceOrderUpToSwaps};
 ghost use Rattle.pauli_product.specs.Signed.{Signed, IsNotIdentity};
 ghost use Rattle.source_model.specs.declared.Given.{Given as Givens};
@@ -58,9 +58,11 @@ impl Model for Board {
     ghost use Rattle.board_core.specs.History.{entries};
     ghost use Rattle.board_core.specs.Kept.{Kept};
 
-    ghost view = { λ b. record { job = job_with b.products.items b.layout b.ledger.pool; history = b.history } };
+    ghost view = { λ b.
+        record { job = job_with b.products.items b.layout b.ledger.pool; history = b.history } };
 
-    ghost invariant = { λ b. Kept (job_with b.products.items b.layout b.ledger.pool) (entries b.history) b.ledger };
+    ghost invariant = { λ b. Kept (job_with b.products.items b.layout b.ledger.pool)
+        (entries b.history) b.ledger };
 }
 
 impl Board {
@@ -82,7 +84,8 @@ impl Board {
         requires makers { HasMakersOf layout pool.makers }
         requires open { IsOpenFor layout products.items }
         requires letters { HaveLetters products.items }
-        ensures new { IfOk result (λ b. b ≡ record { job = job_with products.items layout pool; history = [] }) }
+        ensures new { IfOk result
+            (λ b. b ≡ record { job = job_with products.items layout pool; history = [] }) }
         ensures legal { IfOk result IsLegal }
     {
         let ledger = Ledger::new(alloc, &layout, order, &products, pool)?;
@@ -124,7 +127,8 @@ impl Board {
 
     /// The places of a product's entries.
     pub fn standing(&self, p: u32) -> Option<Standing>
-        ensures { MatchOption result (length self.now.job.products ≤ p) (λ s. (p < length self.now.job.products) × (s ≡ standing_of (past self.now) p)) }
+        ensures { MatchOption result (length self.now.job.products ≤ p)
+            (λ s. (p < length self.now.job.products) × (s ≡ standing_of (past self.now) p)) }
     {
         if p as usize >= self.products.len() {
             return None;
@@ -134,7 +138,8 @@ impl Board {
 
     /// The kind of a product.
     fn kind(&self, p: u32) -> Option<Kind>
-        ensures kind { MatchOption result (length self.now.job.products ≤ p) (λ k. (s : Statics) × IsProduct self.now p s × (k ≡ s.kind)) }
+        ensures kind { MatchOption result (length self.now.job.products ≤ p) (λ k. (s : Statics)
+            × IsProduct self.now p s × (k ≡ s.kind)) }
         ensures legal { IsLegal self.now }
     {
         if p as usize >= self.products.len() {
@@ -151,9 +156,13 @@ impl Board {
         ensures shown { IfOk result (λ _. Shows self.now p look.new) }
         ensures letter { IfOk result (λ _. IsNotIdentity look.new.axis) }
         ensures long { length look.new.axis.letters ≡ length look.old.axis.letters }
-        ensures source { IfOk result (λ _. done_place (past self.now) p ≡ None → look.new.waits ≡ None → AxisOf self.now.job (past self.now) p look.new.axis) }
-        ensures stays { IfOk result (λ _. (axis : Signed) → claimed_axis (past self.now) p ≡ Some axis → done_place (past self.now) p ≡ None → look.new.axis ≡ axis) }
-        ensures refused { IfErr result (λ _. (length self.now.job.products ≤ p) × (look.new ≡ look.old)) }
+        ensures source { IfOk result (λ _. done_place (past self.now) p ≡ None
+            → look.new.waits ≡ None → AxisOf self.now.job (past self.now) p look.new.axis) }
+        ensures stays { IfOk result (λ _. (axis : Signed)
+            → claimed_axis (past self.now) p ≡ Some axis → done_place (past self.now) p ≡ None
+            → look.new.axis ≡ axis) }
+        ensures refused { IfErr result (λ _. (length self.now.job.products ≤ p)
+            × (look.new ≡ look.old)) }
     {
         let Some(kind) = self.kind(p) else {
             return Err(NoProduct);
@@ -170,9 +179,23 @@ impl Board {
         Ok(())
     }
 
+    /// The least earlier product that doesn't commute with this one and isn't done, where there is one.
+    pub fn waits_on(&self, p: u32) -> Result<Option<u32>, NoProduct>
+        ensures waits { IfOk result (λ on. (p < length self.now.job.products)
+            × LeastWait self.now.job.products (past self.now) p on) }
+        ensures refused { IfErr result (λ _. length self.now.job.products ≤ p) }
+    {
+        if p as usize >= self.products.len() {
+            return Err(NoProduct);
+        }
+        Ok(self.ledger.waits_on(p))
+    }
+
     /// The kind of a plan's product, where it takes a region, has no claim, and waits on none.
     fn begin(&self, plan: &Plan) -> Result<Kind, ClaimWhy>
-        ensures begun { MatchResult result (λ k. Waiting self.now plan.now × ((s : Statics) → IsProduct self.now plan.now.number s → k ≡ s.kind)) (λ why. ClaimRefusedBecause why self.now plan.now) }
+        ensures begun { MatchResult result (λ k. Waiting self.now plan.now
+            × ((s : Statics) → IsProduct self.now plan.now.number s → k ≡ s.kind))
+            (λ why. ClaimRefusedBecause why self.now plan.now) }
         ensures legal { IsLegal self.now }
     {
         let Some(kind) = self.kind(plan.number) else {
@@ -194,7 +217,8 @@ impl Board {
     fn compare(&mut self, plan: &Plan) -> Result<(), ClaimWhy>
         requires { Waiting self.old plan.now }
         ensures same { self.new ≡ self.old }
-        ensures axis { MatchResult result (λ _. HasAxis self.old plan.now) (λ why. ClaimRefusedBecause why self.old plan.now) }
+        ensures axis { MatchResult result (λ _. HasAxis self.old plan.now)
+            (λ why. ClaimRefusedBecause why self.old plan.now) }
     {
         let own = &self.products[plan.number as usize].axis;
         if let Some(at) = self.ledger.difference(own, &plan.axis) {
@@ -207,7 +231,8 @@ impl Board {
     fn place(&self, plan: &Plan, kind: Kind) -> Result<(), ClaimWhy>
         requires axis { HasAxis self.now plan.now }
         requires kind { (s : Statics) → IsProduct self.now plan.now.number s → kind ≡ s.kind }
-        ensures { MatchResult result (λ _. IsClaimable self.now plan.now) (λ why. ClaimRefusedBecause why self.now plan.now) }
+        ensures { MatchResult result (λ _. IsClaimable self.now plan.now)
+            (λ why. ClaimRefusedBecause why self.now plan.now) }
     {
         if let Some(fault) = check(&self.layout, plan, is_rotation(kind)) {
             return Err(ClaimWhy::Unfit { fault });
@@ -231,7 +256,8 @@ impl Board {
     fn judge(&mut self, plan: &Plan) -> Result<(), ClaimWhy>
         ensures same { self.new ≡ self.old }
         ensures legal { IsLegal self.new }
-        ensures judged { MatchResult result (λ _. IsClaimable self.old plan.now) (λ why. ClaimRefusedBecause why self.old plan.now) }
+        ensures judged { MatchResult result (λ _. IsClaimable self.old plan.now)
+            (λ why. ClaimRefusedBecause why self.old plan.now) }
     {
         let kind = self.begin(plan)?;
         self.compare(plan)?;
@@ -241,10 +267,18 @@ impl Board {
     /// Claims a product's region by a plan. A rotation takes the least ready state of its port.
     pub fn claim(&mut self, by: u32, plan: Plan, node: Node<Noted>) -> Result<Claimed, ClaimRefused>
         ensures claimable { IfOk result (λ c. IsClaimable self.old plan) }
-        ensures accepted { IfOk result (λ c. Allowed self.old.job (past self.old) (claim_of plan c.state) × (c.place ≡ length self.old.history) × (self.new ≡ with_entry self.old by (claim_of plan c.state))) }
-        ensures source { IfOk result (λ c. (table : List Givens) → length table ≡ length self.old.job.products → Agrees table (past self.new) → slice_get (axes (static_items self.old.job.products) table) plan.number ≡ Some plan.axis) }
-        ensures complete { (state : Option ℕ) → Allowed self.old.job (past self.old) (claim_of plan state) → Certified (case_of self.old.job.grid (is_some plan.port) plan) → IsOk result }
-        ensures refused { IfErr result (λ r. (self.new ≡ self.old) × ClaimRefusedBecause r.why self.old plan × (r.plan ≡ plan) × (r.node ≡ node)) }
+        ensures accepted { IfOk result (λ c. Allowed self.old.job (past self.old)
+            (claim_of plan c.state) × (c.place ≡ length self.old.history)
+            × (self.new ≡ with_entry self.old by (claim_of plan c.state))) }
+        ensures source { IfOk result (λ c. (table : List Givens)
+            → length table ≡ length self.old.job.products → Agrees table (past self.new)
+            → slice_get (axes (static_items self.old.job.products) table) plan.number
+            ≡ Some plan.axis) }
+        ensures complete { (state : Option ℕ)
+            → Allowed self.old.job (past self.old) (claim_of plan state)
+            → Certified (case_of self.old.job.grid (is_some plan.port) plan) → IsOk result }
+        ensures refused { IfErr result (λ r. (self.new ≡ self.old)
+            × ClaimRefusedBecause r.why self.old plan × (r.plan ≡ plan) × (r.node ≡ node)) }
         ensures legal { IsLegal self.new }
     {
         if let Err(why) = self.judge(&plan) {
@@ -275,7 +309,8 @@ impl Board {
 
     /// Why an outcome isn't accepted.
     fn deliver_why(&self, p: u32, given: Given) -> Option<DeliverWhy>
-        ensures { MatchOption result (IsDeliverable self.now p given) (λ why. DeliverRefusedBecause why self.now p given) }
+        ensures { MatchOption result (IsDeliverable self.now p given)
+            (λ why. DeliverRefusedBecause why self.now p given) }
     {
         let Some(kind) = self.kind(p) else {
             return Some(DeliverWhy::NoProduct);
@@ -300,10 +335,16 @@ impl Board {
         node: Node<Noted>,
     ) -> Result<u32, DeliverRefused>
         ensures deliverable { IfOk result (λ place. IsDeliverable self.old p given) }
-        ensures accepted { IfOk result (λ place. (e : Entries) × EntryOf p given e × Allowed self.old.job (past self.old) e × (place ≡ length self.old.history) × (self.new ≡ with_entry self.old by e)) }
-        ensures order { IfOk result (λ place. (table : List Givens) → length table ≡ length self.old.job.products → Agrees table (past self.new) → InSourceOrderUpToSwaps self.old.job.products table (past self.new)) }
-        ensures complete { (e : Entries) → EntryOf p given e → Allowed self.old.job (past self.old) e → IsOk result }
-        ensures refused { IfErr result (λ r. (self.new ≡ self.old) × DeliverRefusedBecause r.why self.old p given × (r.node ≡ node)) }
+        ensures accepted { IfOk result (λ place. (e : Entries) × EntryOf p given e
+            × Allowed self.old.job (past self.old) e × (place ≡ length self.old.history)
+            × (self.new ≡ with_entry self.old by e)) }
+        ensures order { IfOk result (λ place. (table : List Givens)
+            → length table ≡ length self.old.job.products → Agrees table (past self.new)
+            → InSourceOrderUpToSwaps self.old.job.products table (past self.new)) }
+        ensures complete { (e : Entries) → EntryOf p given e
+            → Allowed self.old.job (past self.old) e → IsOk result }
+        ensures refused { IfErr result (λ r. (self.new ≡ self.old)
+            × DeliverRefusedBecause r.why self.old p given × (r.node ≡ node)) }
         ensures legal { IsLegal self.new }
     {
         if let Some(why) = self.deliver_why(p, given) {
@@ -317,7 +358,8 @@ impl Board {
 
     /// Why a release isn't allowed.
     fn release_why(&self, p: u32) -> Option<ReleaseWhy>
-        ensures { MatchOption result (Allowed self.now.job (past self.now) (Release p)) (λ why. ReleaseRefusedBecause why self.now p) }
+        ensures { MatchOption result (Allowed self.now.job (past self.now) (Release p))
+            (λ why. ReleaseRefusedBecause why self.now p) }
     {
         let Some(kind) = self.kind(p) else {
             return Some(ReleaseWhy::NoProduct);
@@ -327,9 +369,11 @@ impl Board {
 
     /// Gives a delivered product's cells back, and answers the entry's place.
     pub fn release(&mut self, by: u32, p: u32, node: Node<Noted>) -> Result<u32, ReleaseRefused>
-        ensures accepted { IfOk result (λ place. Allowed self.old.job (past self.old) (Release p) × (place ≡ length self.old.history) × (self.new ≡ with_entry self.old by (Release p))) }
+        ensures accepted { IfOk result (λ place. Allowed self.old.job (past self.old) (Release p)
+            × (place ≡ length self.old.history) × (self.new ≡ with_entry self.old by (Release p))) }
         ensures complete { Allowed self.old.job (past self.old) (Release p) → IsOk result }
-        ensures refused { IfErr result (λ r. (self.new ≡ self.old) × ReleaseRefusedBecause r.why self.old p × (r.node ≡ node)) }
+        ensures refused { IfErr result (λ r. (self.new ≡ self.old)
+            × ReleaseRefusedBecause r.why self.old p × (r.node ≡ node)) }
         ensures legal { IsLegal self.new }
     {
         if let Some(why) = self.release_why(p) {
@@ -348,9 +392,12 @@ impl Board {
         f: u32,
         node: Node<Noted>,
     ) -> Result<(u32, Stepped), BoardStepRefused>
-        ensures accepted { IfOk result (λ r. Allowed self.old.job (past self.old) (entry.Step f) × (r.0 ≡ length self.old.history) × (r.1 ≡ stepped_by self.old f) × (self.new ≡ with_entry self.old by (entry.Step f))) }
+        ensures accepted { IfOk result (λ r. Allowed self.old.job (past self.old) (entry.Step f)
+            × (r.0 ≡ length self.old.history) × (r.1 ≡ stepped_by self.old f)
+            × (self.new ≡ with_entry self.old by (entry.Step f))) }
         ensures complete { Allowed self.old.job (past self.old) (entry.Step f) → IsOk result }
-        ensures refused { IfErr result (λ r. (self.new ≡ self.old) × StepRefusedBecause r.why self.old f × (r.node ≡ node)) }
+        ensures refused { IfErr result (λ r. (self.new ≡ self.old)
+            × StepRefusedBecause r.why self.old f × (r.node ≡ node)) }
         ensures legal { IsLegal self.new }
     {
         match self.ledger.step(f) {

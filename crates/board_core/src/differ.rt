@@ -9,7 +9,8 @@ use pauli_product::Product;
 /// The least qubit at which the letters differ.
 fn other_letter(axis: &Product, other: &Product) -> Option<u32>
     requires { length axis.now.letters ≡ length other.now.letters }
-    ensures { MatchOption result (axis.now.letters ≡ other.now.letters) (FirstOther axis.now.letters other.now.letters) }
+    ensures { MatchOption result (axis.now.letters ≡ other.now.letters)
+        (FirstOther axis.now.letters other.now.letters) }
 {
     for q in 0..axis.len() {
         if axis.letter(q) != other.letter(q) {

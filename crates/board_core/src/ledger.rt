@@ -31,9 +31,10 @@ ghost use Rattle.pauli_product.specs.Bits.{number_of};
 use crate::Entry;
 use crate::bits::{Written, bit_count, spells, write_bit};
 use crate::board::{Differ, Standing};
-use crate::cells::{free_cells, least_held, take_cells};
+use crate::cells::{least_held, take_cells};
 use crate::differ::first_difference;
 use crate::frames::{correct_rotation, correct_settled, effective_now};
+use crate::holders::Holders;
 use commute_order::{DoneSet, Order};
 use frame_table::Frame;
 use magic_pool::{Fail, Pool, StepRefused, Stepped};
@@ -51,7 +52,7 @@ pub struct Ledger {
     frame: Frame,
     done: DoneSet,
     standings: Vec<Standing>,
-    holders: Vec<Option<u32>>,
+    holders: Holders,
     bits: Vec<Written>,
     pool: Pool,
     // Room for one axis.
@@ -63,7 +64,17 @@ impl Model for Ledger {
 
     ghost Value = { Tables };
 
-    ghost view = { λ l. record { order = l.order; frame = l.frame; done = l.done; standings = l.standings.items; holders = l.holders.items; bits = l.bits.items; pool = l.pool; scratch = l.scratch } };
+    ghost view = { λ l.
+        record {
+          order = l.order;
+          frame = l.frame;
+          done = l.done;
+          standings = l.standings.items;
+          holders = l.holders;
+          bits = l.bits.items;
+          pool = l.pool;
+          scratch = l.scratch;
+        } };
 }
 
 impl Ledger {
@@ -90,7 +101,7 @@ impl Ledger {
             frame: Frame::new(alloc, qubits)?,
             done: DoneSet::new(alloc, n as u32)?,
             standings: no_places(alloc, n)?,
-            holders: no_holders(alloc, layout.size() as usize)?,
+            holders: Holders::new(alloc, layout.size() as usize, n)?,
             bits: no_bits(alloc, bit_count(products))?,
             pool,
             scratch: Product::identity(alloc, qubits)?,
@@ -108,7 +119,8 @@ impl Ledger {
     /// The least earlier product that doesn't commute with this one and isn't done.
     pub fn waits_on(&self, p: u32) -> Option<u32>
         requires { HasProduct self.now p }
-        ensures { (j : Job) (h : History) → Kept j h self.now → p < length j.products → LeastWait j.products h p result }
+        ensures { (j : Job) (h : History) → Kept j h self.now → p < length j.products
+            → LeastWait j.products h p result }
     {
         self.order.waits_on(p, &self.done)
     }
@@ -129,7 +141,8 @@ impl Ledger {
 
     /// How many states of a factory are ready.
     pub fn ready(&self, f: u32) -> u32
-        ensures { (j : Job) (h : History) → Kept j h self.now → result ≡ length (ready_of j.fails (steps h) (taken_states h) f) }
+        ensures { (j : Job) (h : History) → Kept j h self.now
+            → result ≡ length (ready_of j.fails (steps h) (taken_states h) f) }
     {
         self.pool.ready(f)
     }
@@ -138,7 +151,8 @@ impl Ledger {
     pub fn show_axis(&self, own: &Product, into: &mut Product)
         requires own { OfLength (qubits self.now.frame) own.now }
         requires room { OfLength (qubits self.now.frame) into.old }
-        ensures axis { (j : Job) (h : History) → Kept j h self.now → into.new ≡ carry (turns_of j.products h) own.now }
+        ensures axis { (j : Job) (h : History) → Kept j h self.now
+            → into.new ≡ carry (turns_of j.products h) own.now }
         ensures long { length into.new.letters ≡ length into.old.letters }
     {
         self.frame.image(own, into);
@@ -147,7 +161,9 @@ impl Ledger {
     /// Leaves each factory's count of ready states.
     pub fn show_ready(&self, counts: &mut [u32])
         requires { length counts.old ≡ 16 }
-        ensures counts { (j : Job) (h : History) → Kept j h self.now → (f : ℕ) → f < 16 → slice_get counts.new f ≡ Some (length (ready_of j.fails (steps h) (taken_states h) f)) }
+        ensures counts { (j : Job) (h : History) → Kept j h self.now → (f : ℕ) → f < 16
+            → slice_get counts.new f ≡ Some (length
+            (ready_of j.fails (steps h) (taken_states h) f)) }
     {
         for f in 0..16u32 {
             counts[f as usize] = self.pool.ready(f);
@@ -158,7 +174,9 @@ impl Ledger {
     pub fn difference(&mut self, own: &Product, axis: &Product) -> Option<Differ>
         requires own { OfLength (qubits self.old.frame) own.now }
         requires room { OfLength (qubits self.old.frame) self.old.scratch }
-        ensures first { (j : Job) (h : History) → Kept j h self.old → MatchOption result (carry (turns_of j.products h) own.now ≡ axis.now) (DiffersAt (carry (turns_of j.products h) own.now) axis.now) }
+        ensures first { (j : Job) (h : History) → Kept j h self.old
+            → MatchOption result (carry (turns_of j.products h) own.now ≡ axis.now)
+            (DiffersAt (carry (turns_of j.products h) own.now) axis.now) }
         ensures kept { (j : Job) (h : History) → Kept j h self.old → Kept j h self.new }
     {
         self.frame.image(own, &mut self.scratch);
@@ -176,9 +194,10 @@ impl Ledger {
         requires sizes { length self.now.holders ≡ length layout.now.sites }
         requires few { length cells.now ≤ 4096 }
         requires cells { All (λ c. c < length layout.now.sites) cells.now }
-        ensures { LeastTaken (ClaimCell layout.now axis.now port cells.now) self.now.holders result }
+        ensures { LeastTaken (ClaimCell layout.now axis.now port cells.now) self.now.holders
+            result }
     {
-        least_held(layout, axis, port, cells, &self.holders)
+        least_held(layout, axis, port, cells, self.holders.as_slice())
     }
 
     /// Whether the bits that a settled product reads spell its value.
@@ -203,8 +222,11 @@ impl Ledger {
         requires few { length cells.now ≤ 4096 }
         requires cells { All (λ c. c < length layout.now.sites) cells.now }
         requires p { p < length self.old.standings }
-        ensures state { (j : Job) (h : History) → Kept j h self.old → result ≡ next_state j.fails (steps h) (taken_states h) port }
-        ensures kept { (j : Job) (h : History) → Kept j h self.old → j.grid ≡ layout.now → Allowed j h (entry.Claim p axis.now port result cells.now) → place ≡ length h → Kept j (h ++ entry.Claim p axis.now port result cells.now ∷ []) self.new }
+        ensures state { (j : Job) (h : History) → Kept j h self.old
+            → result ≡ next_state j.fails (steps h) (taken_states h) port }
+        ensures kept { (j : Job) (h : History) → Kept j h self.old → j.grid ≡ layout.now
+            → Allowed j h (entry.Claim p axis.now port result cells.now) → place ≡ length h
+            → Kept j (h ++ entry.Claim p axis.now port result cells.now ∷ []) self.new }
     {
         take_cells(layout, axis, port, cells, p, &mut self.holders);
         note_claim(&mut self.standings, p, place);
@@ -215,7 +237,10 @@ impl Ledger {
     pub fn rotate(&mut self, own: &Product, raw: bool, x: bool, p: u32, place: u32)
         requires own { OfLength (qubits self.old.frame) own.now }
         requires covers { HasProduct self.old p }
-        ensures { (j : Job) (h : History) (s : Statics) → Kept j h self.old → slice_get j.products p ≡ Some s → s.axis ≡ own.now → Allowed j h (entry.Deliver p (given.Rotation raw x)) → place ≡ length h → Kept j (h ++ entry.Deliver p (given.Rotation raw x) ∷ []) self.new }
+        ensures { (j : Job) (h : History) (s : Statics) → Kept j h self.old
+            → slice_get j.products p ≡ Some s → s.axis ≡ own.now
+            → Allowed j h (entry.Deliver p (given.Rotation raw x)) → place ≡ length h
+            → Kept j (h ++ entry.Deliver p (given.Rotation raw x) ∷ []) self.new }
     {
         let effective = effective_now(&self.frame, own, &mut self.scratch, raw);
         correct_rotation(&mut self.frame, own, effective, x);
@@ -227,7 +252,10 @@ impl Ledger {
         requires own { OfLength (qubits self.old.frame) own.now }
         requires covers { HasProduct self.old p }
         requires bit { bit < length self.old.bits }
-        ensures { (j : Job) (h : History) (s : Statics) → Kept j h self.old → slice_get j.products p ≡ Some s → s.axis ≡ own.now → s.kind ≡ Measure bit → Allowed j h (entry.Deliver p (given.Measure raw)) → place ≡ length h → Kept j (h ++ entry.Deliver p (given.Measure raw) ∷ []) self.new }
+        ensures { (j : Job) (h : History) (s : Statics) → Kept j h self.old
+            → slice_get j.products p ≡ Some s → s.axis ≡ own.now → s.kind ≡ Measure bit
+            → Allowed j h (entry.Deliver p (given.Measure raw)) → place ≡ length h
+            → Kept j (h ++ entry.Deliver p (given.Measure raw) ∷ []) self.new }
     {
         let effective = effective_now(&self.frame, own, &mut self.scratch, raw);
         write_bit(&mut self.bits, bit, p, effective);
@@ -238,7 +266,9 @@ impl Ledger {
     pub fn settle(&mut self, own: &Product, flip: bool, p: u32, place: u32)
         requires own { OfLength (qubits self.old.frame) own.now }
         requires covers { HasProduct self.old p }
-        ensures { (j : Job) (h : History) (s : Statics) → Kept j h self.old → slice_get j.products p ≡ Some s → s.axis ≡ own.now → Allowed j h (entry.Settle p flip) → place ≡ length h → Kept j (h ++ entry.Settle p flip ∷ []) self.new }
+        ensures { (j : Job) (h : History) (s : Statics) → Kept j h self.old
+            → slice_get j.products p ≡ Some s → s.axis ≡ own.now → Allowed j h (entry.Settle p flip)
+            → place ≡ length h → Kept j (h ++ entry.Settle p flip ∷ []) self.new }
     {
         correct_settled(&mut self.frame, own, flip);
         note_done(&mut self.done, &mut self.standings, p, place);
@@ -247,18 +277,21 @@ impl Ledger {
     /// Notes a release.
     pub fn release(&mut self, p: u32, place: u32)
         requires { p < length self.old.standings }
-        ensures { (j : Job) (h : History) → Kept j h self.old → Allowed j h (entry.Release p) → place ≡ length h → Kept j (h ++ entry.Release p ∷ []) self.new }
+        ensures { (j : Job) (h : History) → Kept j h self.old → Allowed j h (entry.Release p)
+            → place ≡ length h → Kept j (h ++ entry.Release p ∷ []) self.new }
     {
-        free_cells(p, &mut self.holders);
+        self.holders.free(p);
         note_release(&mut self.standings, p, place);
     }
 
     /// Makes a step of a factory.
     pub fn step(&mut self, f: u32) -> Result<Stepped, StepRefused>
         requires { HasFewer self.old.pool (2 ^ 32 - 1) }
-        ensures answer { (j : Job) (h : History) → Kept j h self.old → result ≡ step_answer self.old.pool.makers j.fails (steps h) (taken_states h) f }
+        ensures answer { (j : Job) (h : History) → Kept j h self.old
+            → result ≡ step_answer self.old.pool.makers j.fails (steps h) (taken_states h) f }
         ensures stocked { (n : ℕ) → result ≡ Err (Stocked n) → n ≡ store_of self.old.pool.makers f }
-        ensures kept { OnOk result ((j : Job) (h : History) → Kept j h self.old → Allowed j h (entry.Step f) → Kept j (h ++ entry.Step f ∷ []) self.new) }
+        ensures kept { OnOk result ((j : Job) (h : History) → Kept j h self.old
+            → Allowed j h (entry.Step f) → Kept j (h ++ entry.Step f ∷ []) self.new) }
         ensures refused { OnErr result (self.new ≡ self.old) }
     {
         self.pool.step(f)
@@ -267,8 +300,10 @@ impl Ledger {
 
 /// Takes the least ready state of the port that is named.
 fn take_state(pool: &mut Pool, port: Option<u32>) -> Option<u32>
-    ensures state { (made taken : List ℕ) → Recounts pool.old made taken → result ≡ next_state pool.old.fails made taken port }
-    ensures history { (made taken : List ℕ) → Recounts pool.old made taken → Recounts pool.new made (taken ++ option_to_list result) }
+    ensures state { (made taken : List ℕ) → Recounts pool.old made taken
+        → result ≡ next_state pool.old.fails made taken port }
+    ensures history { (made taken : List ℕ) → Recounts pool.old made taken
+        → Recounts pool.new made (taken ++ option_to_list result) }
     ensures makers { pool.new.makers ≡ pool.old.makers }
     ensures fails { pool.new.fails ≡ pool.old.fails }
 {
@@ -281,7 +316,8 @@ fn take_state(pool: &mut Pool, port: Option<u32>) -> Option<u32>
 /// Notes the place of a product's claim.
 fn note_claim(standings: &mut [Standing], p: u32, place: u32)
     requires { p < length standings.old }
-    ensures { (s : Standings) → slice_get standings.old p ≡ Some s → standings.new ≡ slice_set standings.old p (record s { claim = Some place }) }
+    ensures { (s : Standings) → slice_get standings.old p ≡ Some s
+        → standings.new ≡ slice_set standings.old p (record s { claim = Some place }) }
 {
     standings[p as usize].claim = Some(place);
 }
@@ -289,7 +325,8 @@ fn note_claim(standings: &mut [Standing], p: u32, place: u32)
 /// Notes the place of a product's release.
 fn note_release(standings: &mut [Standing], p: u32, place: u32)
     requires { p < length standings.old }
-    ensures { (s : Standings) → slice_get standings.old p ≡ Some s → standings.new ≡ slice_set standings.old p (record s { release = Some place }) }
+    ensures { (s : Standings) → slice_get standings.old p ≡ Some s
+        → standings.new ≡ slice_set standings.old p (record s { release = Some place }) }
 {
     standings[p as usize].release = Some(place);
 }
@@ -299,7 +336,8 @@ fn note_done(done: &mut DoneSet, standings: &mut [Standing], p: u32, place: u32)
     requires done { p < length done.old }
     requires standings { p < length standings.old }
     ensures done { done.new ≡ slice_set done.old p true }
-    ensures places { (s : Standings) → slice_get standings.old p ≡ Some s → standings.new ≡ slice_set standings.old p (record s { deliver = Some place }) }
+    ensures places { (s : Standings) → slice_get standings.old p ≡ Some s
+        → standings.new ≡ slice_set standings.old p (record s { deliver = Some place }) }
 {
     done.mark(p);
     standings[p as usize].deliver = Some(place);
@@ -316,7 +354,9 @@ pub fn note_outcome(
     requires own { OfLength (qubits ledger.old.frame) product.now.axis }
     requires covers { HasProduct ledger.old p }
     requires bits { NamesBelow (length ledger.old.bits) product.now.kind }
-    ensures { (j : Job) (h : History) → Kept j h ledger.old → CanDeliver j h p product.now given → place ≡ length h → EntryOf p given result × Allowed j h result × Kept j (h ++ result ∷ []) ledger.new }
+    ensures { (j : Job) (h : History) → Kept j h ledger.old → CanDeliver j h p product.now given
+        → place ≡ length h → EntryOf p given result × Allowed j h result
+        × Kept j (h ++ result ∷ []) ledger.new }
 {
     let own = &product.axis;
     match (product.kind, given) {
@@ -351,16 +391,10 @@ fn qubits_of(products: &[Static]) -> u32
 
 /// The places of products without entries.
 fn no_places(alloc: Global, n: usize) -> Result<Vec<Standing>, Memory>
-    ensures { IfOk result (λ v. v.items ≡ replicate n (record { claim = None; deliver = None; release = None })) }
+    ensures { IfOk result (λ v. v.items ≡ replicate n
+        (record { claim = None; deliver = None; release = None })) }
 {
     Ok(vec![in alloc; Standing::empty(); n]?)
-}
-
-/// Cells that no product holds.
-fn no_holders(alloc: Global, n: usize) -> Result<Vec<Option<u32>>, Memory>
-    ensures { IfOk result (λ v. v.items ≡ replicate n None) }
-{
-    Ok(vec![in alloc; None; n]?)
 }
 
 /// Bits that nothing has written.

@@ -10,6 +10,7 @@ mod cells;
 mod desk;
 mod differ;
 mod frames;
+mod holders;
 mod judging;
 mod law;
 mod ledger;

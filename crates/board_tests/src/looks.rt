@@ -73,6 +73,17 @@ fn looks_show_what_a_product_waits_on(rt: HostRuntime) -> Result<(), Fail> {
     Ok(())
 }
 
+// What a look shows, without a look. Product 3 isn't there.
+#[test]
+fn products_wait_without_a_look(rt: HostRuntime) -> Result<(), Fail> {
+    let board = board_for(rt.alloc(), &WAITING, &[])?;
+    assert_eq!(rt; board.waits_on(0), Ok(None));
+    assert_eq!(rt; board.waits_on(1), Ok(Some(0)));
+    assert_eq!(rt; board.waits_on(2), Ok(Some(1)));
+    assert_eq!(rt; board.waits_on(3), Err(NoProduct));
+    Ok(())
+}
+
 static ROTATION: [Row; 2] = [(b"+ZI", Kind::Rotation), (b"+IZ", BIT_0)];
 
 #[test]

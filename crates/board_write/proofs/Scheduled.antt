@@ -1,5 +1,5 @@
 -- The bits that a board leaves are those of the source run, and so is the text with them.
-use Rattle.std.proofs.Common.{◌≡◌, Bool, false, zero-add, length, List, ap, ◌∙◌}
+use Rattle.std.proofs.Common.{◌≡◌, Bool, false, zero-add, List, ap, ◌∙◌}
 use Rattle.std.proofs.lemmas.List.FromFn.{get_or-map-range_with_len}
 use Rattle.source_model.specs.declared.Circuit.{Circuit}
 use Rattle.source_model.specs.declared.Given.{Given}

@@ -29,7 +29,7 @@ pub fn write_board<O: Sink>(
     requires products { board.now.job.products ≡ statics circuit.now.items }
     ensures counts { O.faults out.old ≤ O.faults out.new }
     ensures written { (table : List Given) → IsComplete circuit.now board.now table →
-        let w = writing (O.taken out.old) (O.taken out.new) (O.faults out.old) (O.faults out.new) in
+        let w = writing O.taken O.faults out.old out.new in
         WritesText w (schedule_of circuit.now table board.now.history) result }
 {
     let bits = bits_of(alloc, circuit, board)?;
@@ -54,7 +54,7 @@ pub fn write_board_bits<O: Sink>(
     requires products { board.now.job.products ≡ statics circuit.now.items }
     ensures counts { O.faults out.old ≤ O.faults out.new }
     ensures written { (table : List Given) → IsComplete circuit.now board.now table →
-        let w = writing (O.taken out.old) (O.taken out.new) (O.faults out.old) (O.faults out.new) in
+        let w = writing O.taken O.faults out.old out.new in
         WritesText w (before.now ++ bits_shown circuit.now table) result }
 {
     let bits = bits_of(alloc, circuit, board)?;

@@ -42,7 +42,8 @@ pub fn add_product(columns: &mut Vec<Bits>, against: Letter, product: &Product, 
     ensures size { length columns.new.items ≡ length columns.old.items }
     ensures set { (q : ℕ) → q < length columns.old.items →
         slice_index_or columns.new.items q [] ≡
-        (if letters_clash against (slice_index_or product.now.letters q I) then slice_set (slice_index_or columns.old.items q []) p true else slice_index_or columns.old.items q []) }
+        (if letters_clash against (slice_index_or product.now.letters q I) then slice_set
+        (slice_index_or columns.old.items q []) p true else slice_index_or columns.old.items q []) }
 {
     for q in 0..product.len() {
         if clashes(against, product.letter(q)) {
@@ -59,7 +60,8 @@ fn flip_letter(row: &mut Bits, letter: Letter, x: &Bits, z: &Bits)
     ensures size { length row.new ≡ length row.old }
     ensures bits { (j : ℕ) → j < length row.old →
         slice_index_or row.new j false ≡
-        xor (slice_index_or row.old j false) (clash_bit letter (slice_index_or x.now j false) (slice_index_or z.now j false)) }
+        xor (slice_index_or row.old j false) (clash_bit letter (slice_index_or x.now j false)
+        (slice_index_or z.now j false)) }
 {
     match letter {
         Letter::I => {}

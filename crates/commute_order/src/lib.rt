@@ -158,12 +158,15 @@ fn clash_row(
     requires qubits { All (OfLength (length x.old.items)) products.now }
     requires x { IsColumns X products.now p (length x.old.items) (length products.now) x.old.items }
     requires z { IsColumns Z products.now p (length x.old.items) (length products.now) z.old.items }
-    ensures x { OnOk result (IsColumns X products.now (p + 1) (length x.old.items) (length products.now) x.new.items) }
-    ensures z { OnOk result (IsColumns Z products.now (p + 1) (length x.old.items) (length products.now) z.new.items) }
+    ensures x { OnOk result (IsColumns X products.now (p + 1) (length x.old.items)
+        (length products.now) x.new.items) }
+    ensures z { OnOk result (IsColumns Z products.now (p + 1) (length x.old.items)
+        (length products.now) z.new.items) }
     ensures size { IfOk result (λ row. length row ≡ p + 1) }
     ensures marks { IfOk result (λ row. (j : ℕ) → j ≤ p →
         slice_index_or row j false ≡
-        not (commute (slice_index_or products.now j (plus [])) (slice_index_or products.now p (plus [])))) }
+        not (commute (slice_index_or products.now j (plus []))
+        (slice_index_or products.now p (plus [])))) }
 {
     let product = &products[p as usize];
     add_product(x, Letter::X, product, p);
@@ -181,7 +184,8 @@ fn clash_rows(alloc: Global, products: &[Product]) -> Result<Vec<Bits>, Memory>
     ensures long { IfOk result (λ rows. IsTriangle rows.items) }
     ensures marks { IfOk result (λ rows. (p j : ℕ) → p < length products.now → j ≤ p →
         mark rows.items p j ≡
-        not (commute (slice_index_or products.now j (plus [])) (slice_index_or products.now p (plus [])))) }
+        not (commute (slice_index_or products.now j (plus []))
+        (slice_index_or products.now p (plus [])))) }
 {
     let count = products.len() as u32;
     let qubits = qubit_count(products);

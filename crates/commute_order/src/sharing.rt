@@ -72,7 +72,8 @@ fn mark_pair(rows: &mut [Bits], a: u32, b: u32)
     requires b { b < length rows.old }
     requires long { IsTriangle rows.old }
     ensures { rows.new ≡
-        slice_set rows.old (max a b) (slice_set (slice_index_or rows.old (max a b) []) (min a b) true) }
+        slice_set rows.old (max a b) (slice_set (slice_index_or rows.old (max a b) [])
+        (min a b) true) }
 {
     let row = &mut rows[a.max(b) as usize];
     row.set(a.min(b));
@@ -106,7 +107,8 @@ fn mark_reader(rows: &mut [Bits], writers: &[Writer], uses: &[Uses], r: u32)
     ensures long { IsTriangle rows.new }
     ensures marks { (p j : ℕ) (d : Uses) → j ≤ p → p < length uses.now →
         mark rows.new p j ≡ (mark rows.old p j ||
-        pair_with (λ k. reads_from (slice_index_or uses.now r d) (slice_index_or uses.now k d)) r p j) }
+        pair_with (λ k. reads_from (slice_index_or uses.now r d) (slice_index_or uses.now k d)) r p
+        j) }
 {
     let read = writers_read(writers, &uses[r as usize]);
     mark_pairs(rows, read, r);

@@ -9,8 +9,9 @@ pub record Writing : Type 0 where
   pub before : ℕ
   pub after : ℕ
 
-abbrev pub writing : Option (List ℕ) → Option (List ℕ) → ℕ → ℕ → Writing
-writing taken_before taken_after before after = record { taken_before = taken_before; taken_after = taken_after; before = before; after = after }
+-- a sink before and after a call
+abbrev pub writing : {O : Type 0} → (O → Option (List ℕ)) → (O → ℕ) → O → O → Writing
+writing taken faults old new = record { taken_before = taken old; taken_after = taken new; before = faults old; after = faults new }
 
 abbrev pub Untouched : Writing → Type 0
 Untouched w = w.taken_after ≡ w.taken_before

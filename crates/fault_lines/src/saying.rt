@@ -1,6 +1,6 @@
 //! A line to standard error.
 
-ghost use Rattle.std.specs.Prelude.{◌≡◌, ◌≤◌, OnOk, OnErr};
+ghost use Rattle.std.specs.Prelude.{◌≤◌, OnOk, OnErr};
 ghost use Rattle.patch_base.specs.Outside.{Rose, Grew, AppendsPrefix};
 ghost use Rattle.fault_lines.specs.Lines.{circuit_line, layout_line, line_text, outcomes_line};
 ghost use Rattle.fault_lines.specs.Sinks.{Said, writing};
@@ -16,7 +16,7 @@ use qasm_lex::CircuitFault;
 /// Writes a fault line. A sink that fails takes a prefix of it, and nothing more comes of that.
 pub fn say_line<E: Sink>(err: &mut E, line: FaultLine<'_>)
     ensures counts { E.faults err.old ≤ E.faults err.new }
-    ensures said { Said (writing (E.taken err.old) (E.taken err.new) (E.faults err.old) (E.faults err.new)) (line_text line.entry) }
+    ensures said { Said (writing E.taken E.faults err.old err.new) (line_text line.entry) }
 {
     let _ = write_fault(err, line);
 }
@@ -24,7 +24,8 @@ pub fn say_line<E: Sink>(err: &mut E, line: FaultLine<'_>)
 fn write_fault<E: Sink>(err: &mut E, line: FaultLine<'_>) -> Result<(), Failed>
     ensures counts { E.faults err.old ≤ E.faults err.new }
     ensures all { OnOk result (Grew (E.taken err.old) (E.taken err.new) (line_text line.entry)) }
-    ensures part { OnErr result (AppendsPrefix (E.taken err.old) (E.taken err.new) (line_text line.entry)) }
+    ensures part { OnErr result (AppendsPrefix (E.taken err.old) (E.taken err.new)
+        (line_text line.entry)) }
     ensures failed { OnErr result (Rose (E.faults err.old) (E.faults err.new)) }
 {
     match line {
@@ -43,7 +44,8 @@ fn write_fault<E: Sink>(err: &mut E, line: FaultLine<'_>) -> Result<(), Failed>
 fn write_circuit<E: Sink>(err: &mut E, fault: CircuitFault) -> Result<(), Failed>
     ensures counts { E.faults err.old ≤ E.faults err.new }
     ensures all { OnOk result (Grew (E.taken err.old) (E.taken err.new) (circuit_line fault)) }
-    ensures part { OnErr result (AppendsPrefix (E.taken err.old) (E.taken err.new) (circuit_line fault)) }
+    ensures part { OnErr result (AppendsPrefix (E.taken err.old) (E.taken err.new)
+        (circuit_line fault)) }
     ensures failed { OnErr result (Rose (E.faults err.old) (E.faults err.new)) }
 {
     match fault {
@@ -55,7 +57,8 @@ fn write_circuit<E: Sink>(err: &mut E, fault: CircuitFault) -> Result<(), Failed
 fn write_layout<E: Sink>(err: &mut E, fault: LayoutFault) -> Result<(), Failed>
     ensures counts { E.faults err.old ≤ E.faults err.new }
     ensures all { OnOk result (Grew (E.taken err.old) (E.taken err.new) (layout_line fault)) }
-    ensures part { OnErr result (AppendsPrefix (E.taken err.old) (E.taken err.new) (layout_line fault)) }
+    ensures part { OnErr result (AppendsPrefix (E.taken err.old) (E.taken err.new)
+        (layout_line fault)) }
     ensures failed { OnErr result (Rose (E.faults err.old) (E.faults err.new)) }
 {
     match fault {
@@ -81,7 +84,8 @@ fn write_layout<E: Sink>(err: &mut E, fault: LayoutFault) -> Result<(), Failed>
 fn write_outcomes<E: Sink>(err: &mut E, fault: OutcomeFault) -> Result<(), Failed>
     ensures counts { E.faults err.old ≤ E.faults err.new }
     ensures all { OnOk result (Grew (E.taken err.old) (E.taken err.new) (outcomes_line fault)) }
-    ensures part { OnErr result (AppendsPrefix (E.taken err.old) (E.taken err.new) (outcomes_line fault)) }
+    ensures part { OnErr result (AppendsPrefix (E.taken err.old) (E.taken err.new)
+        (outcomes_line fault)) }
     ensures failed { OnErr result (Rose (E.faults err.old) (E.faults err.new)) }
 {
     match fault {

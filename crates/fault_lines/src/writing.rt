@@ -1,6 +1,6 @@
 //! Lines and numbers to a sink.
 
-ghost use Rattle.std.specs.Prelude.{◌≡◌, ◌≤◌, ◌++◌, codes, decimal, OnOk, OnErr};
+ghost use Rattle.std.specs.Prelude.{◌≤◌, ◌++◌, decimal, OnOk, OnErr};
 ghost use Rattle.patch_base.specs.Outside.{Rose, Grew, AppendsPrefix};
 ghost use Rattle.fault_lines.specs.Lines.{plain, numbered};
 
@@ -10,8 +10,10 @@ use patch_base::{Failed, Sink, write_all};
 /// Writes a line of two parts.
 pub fn write_line<O: Sink>(out: &mut O, first: &[u8], second: &[u8]) -> Result<(), Failed>
     ensures counts { O.faults out.old ≤ O.faults out.new }
-    ensures all { OnOk result (Grew (O.taken out.old) (O.taken out.new) (plain first.now second.now)) }
-    ensures part { OnErr result (AppendsPrefix (O.taken out.old) (O.taken out.new) (plain first.now second.now)) }
+    ensures all { OnOk result (Grew (O.taken out.old) (O.taken out.new)
+        (plain first.now second.now)) }
+    ensures part { OnErr result (AppendsPrefix (O.taken out.old) (O.taken out.new)
+        (plain first.now second.now)) }
     ensures failed { OnErr result (Rose (O.faults out.old) (O.faults out.new)) }
 {
     write_all(out, first)?;
@@ -27,8 +29,10 @@ pub fn write_line<O: Sink>(out: &mut O, first: &[u8], second: &[u8]) -> Result<(
 /// `Failed` where the sink failed, which then took a prefix of these bytes.
 pub fn write_number<O: Sink>(out: &mut O, first: &[u8], number: u32) -> Result<(), Failed>
     ensures counts { O.faults out.old ≤ O.faults out.new }
-    ensures all { OnOk result (Grew (O.taken out.old) (O.taken out.new) (first.now ++ decimal number)) }
-    ensures part { OnErr result (AppendsPrefix (O.taken out.old) (O.taken out.new) (first.now ++ decimal number)) }
+    ensures all { OnOk result (Grew (O.taken out.old) (O.taken out.new)
+        (first.now ++ decimal number)) }
+    ensures part { OnErr result (AppendsPrefix (O.taken out.old) (O.taken out.new)
+        (first.now ++ decimal number)) }
     ensures failed { OnErr result (Rose (O.faults out.old) (O.faults out.new)) }
 {
     let mut buffer = Buffer::new();
@@ -49,8 +53,10 @@ pub fn write_numbered<O: Sink>(
     last: &[u8],
 ) -> Result<(), Failed>
     ensures counts { O.faults out.old ≤ O.faults out.new }
-    ensures all { OnOk result (Grew (O.taken out.old) (O.taken out.new) (numbered first.now number last.now)) }
-    ensures part { OnErr result (AppendsPrefix (O.taken out.old) (O.taken out.new) (numbered first.now number last.now)) }
+    ensures all { OnOk result (Grew (O.taken out.old) (O.taken out.new)
+        (numbered first.now number last.now)) }
+    ensures part { OnErr result (AppendsPrefix (O.taken out.old) (O.taken out.new)
+        (numbered first.now number last.now)) }
     ensures failed { OnErr result (Rose (O.faults out.old) (O.faults out.new)) }
 {
     write_number(out, first, number)?;

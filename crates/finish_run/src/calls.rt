@@ -18,7 +18,8 @@ use source_model::Given;
 /// Claims by a plan that nothing speaks against.
 pub(crate) fn claim(board: &mut Board, plan: Plan, node: Node<Noted>)
     requires { IsClaimable board.old plan }
-    ensures claimed { (state : Option ℕ) × (board.new ≡ with_entry board.old 0 (claim_of plan state)) }
+    ensures claimed { (state : Option ℕ)
+        × (board.new ≡ with_entry board.old 0 (claim_of plan state)) }
     ensures legal { IsLegal board.new }
 {
     let Ok(_) = board.claim(0, plan, node) else {
@@ -87,7 +88,8 @@ pub(crate) fn is_unreleased(board: &Board, p: u32) -> bool
 
 /// Whether a product with these places is claimed and done, and not released.
 fn holds_on(standing: Standing) -> bool
-    ensures { IsTrue result ↔ (IsSome standing.claim × IsSome standing.deliver × (standing.release ≡ None)) }
+    ensures { IsTrue result ↔ (IsSome standing.claim × IsSome standing.deliver
+        × (standing.release ≡ None)) }
 {
     standing.claim.is_some() && standing.deliver.is_some() && standing.release.is_none()
 }

@@ -1,6 +1,6 @@
 //! A board brought to its end.
 
-ghost use Rattle.std.specs.Prelude.{◌≡◌, ◌≤◌, IfOk, IfErr, OnOk, length};
+ghost use Rattle.std.specs.Prelude.{IfOk, IfErr, OnOk, length};
 ghost use Rattle.region_plan.specs.Answer.{LeastJoined};
 ghost use Rattle.board_core.specs.Legal.{Complete};
 ghost use Rattle.board_core.specs.Position.{past, IsLegal};
@@ -13,7 +13,7 @@ use crate::serving::carry_out_rest;
 use board_core::Board;
 use outcome_table::Outcomes;
 use patch_base::Memory;
-use region_plan::{JoiningPlanner, Planner};
+use region_plan::{KeepingPlanner, Planner};
 use source_model::Given;
 use std::alloc::Global;
 
@@ -41,7 +41,8 @@ pub fn finish_by<P: Planner>(
     planner: &mut P,
 ) -> Result<Board, FinishMemory>
     requires { AreOutcomesOf outcomes.now.given board.job.products }
-    ensures complete { IfOk result (λ b. Complete b.job (past b) (own_or_given (past board) outcomes.now.given)) }
+    ensures complete { IfOk result (λ b. Complete b.job (past b)
+        (own_or_given (past board) outcomes.now.given)) }
     ensures goes { IfOk result (λ b. GoesOn P.meets outcomes.now.given board b) }
     ensures legal { IfOk result IsLegal }
     ensures so_far { IfErr result (λ r. GoesOn P.meets outcomes.now.given board r.board) }
@@ -61,13 +62,14 @@ pub fn finish_by<P: Planner>(
 /// `FinishMemory` out of memory, and nothing else.
 pub fn finish(alloc: Global, board: Board, outcomes: &Outcomes) -> Result<Board, FinishMemory>
     requires { AreOutcomesOf outcomes.now.given board.job.products }
-    ensures complete { IfOk result (λ b. Complete b.job (past b) (own_or_given (past board) outcomes.now.given)) }
+    ensures complete { IfOk result (λ b. Complete b.job (past b)
+        (own_or_given (past board) outcomes.now.given)) }
     ensures goes { IfOk result (λ b. GoesOn LeastJoined outcomes.now.given board b) }
     ensures legal { IfOk result IsLegal }
     ensures so_far { IfErr result (λ r. GoesOn LeastJoined outcomes.now.given board r.board) }
     ensures legal_so_far { IfErr result (λ r. IsLegal r.board) }
 {
-    finish_by(alloc, board, outcomes, &mut JoiningPlanner)
+    finish_by(alloc, board, outcomes, &mut KeepingPlanner::new(alloc))
 }
 
 /// Brings a board to its end in place. Out of memory, what was done so far stays.

@@ -1,6 +1,6 @@
 //! Making a magic state.
 
-ghost use Rattle.std.specs.Prelude.{◌≡◌, ℕ, ◌<◌, ◌≤◌, IsTrue, ◌↔◌, OnOk, All, List, length};
+ghost use Rattle.std.specs.Prelude.{◌≡◌, ℕ, ◌<◌, IsTrue, ◌↔◌, OnOk, All, List, length};
 ghost use Rattle.source_model.specs.declared.Given.{Given as Givens};
 ghost use Rattle.patch_layout.specs.Openness.{Least};
 ghost use Rattle.region_plan.specs.Free.{LacksState};

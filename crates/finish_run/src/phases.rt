@@ -1,6 +1,6 @@
 //! What is claimed is brought to its end first.
 
-ghost use Rattle.std.specs.Prelude.{◌≡◌, ℕ, ◌+◌, ◌<◌, OnOk, List, length};
+ghost use Rattle.std.specs.Prelude.{◌+◌, ◌<◌, OnOk, List, length};
 ghost use Rattle.source_model.specs.declared.Given.{Given as Givens};
 ghost use Rattle.board_core.specs.Position.{past, IsLegal};
 ghost use Rattle.source_model.specs.Statics.{AreOutcomesOf};

@@ -1,7 +1,6 @@
 //! Products carried out one after another.
 
-ghost use Rattle.std.specs.Prelude.{◌≡◌, ℕ, ◌+◌, ◌<◌, ◌≤◌, IsSome, IfOk, OnOk, List, Some, length, slice_get};
-ghost use Rattle.source_model.specs.declared.Given.{Given as Givens};
+ghost use Rattle.std.specs.Prelude.{◌≡◌, ℕ, ◌+◌, ◌<◌, IsSome, IfOk, OnOk, Some, length, slice_get};
 ghost use Rattle.source_model.specs.declared.Given.TheVariants as givens;
 ghost use Rattle.board_core.specs.History.{done_place};
 ghost use Rattle.board_core.specs.Position.{past, IsLegal};

@@ -7,7 +7,9 @@ use crate::layouts::{layout_b, layout_of, row_for, row_two};
 use patch_base::Memory;
 use patch_layout::{Layout, LayoutFault, Look, check};
 use pauli_product::{Letter, Product};
-use region_plan::{JoiningPlanner, Planned, Planner, law_joined, law_region_fits, plan};
+use region_plan::{
+    JoiningPlanner, KeepingPlanner, Planned, Planner, law_joined, law_region_fits, plan,
+};
 use std::alloc::Global;
 use std::test::Fail;
 
@@ -239,5 +241,44 @@ fn as_a_planner(rt: HostRuntime) -> Result<(), Fail> {
     let look = look_at(rt.alloc(), &layout, &[Letter::Z], true, &[])?;
     let planned = ask_of(&mut JoiningPlanner, rt.alloc(), &layout, &look);
     assert!(rt; is_region(planned, &layout, &[1, 2, 3], Some(0)));
+    Ok(())
+}
+
+// Whether a planner that keeps walks plans a region of these cells for the axis, where product 0
+// holds the other cells.
+fn keeps(
+    planner: &mut KeepingPlanner,
+    alloc: Global,
+    layout: &Layout,
+    letter: Letter,
+    port: Option<u32>,
+    held: &[u32],
+    cells: &[u32],
+) -> Result<bool, Memory> {
+    let look = look_at(alloc, layout, &[letter], port.is_some(), held)?;
+    let planned = ask_of(planner, alloc, layout, &look);
+    Ok(is_region(planned, layout, cells, port))
+}
+
+// Two layouts of eight cells in turn: the walks of one are of no use in the other.
+#[test]
+fn walks_are_kept(rt: HostRuntime) -> Result<(), Fail> {
+    let alloc = rt.alloc();
+    let row = row_one(alloc)?;
+    let other = layout_of(alloc, b"layout 1 2 4\nport 0 4 h 1\npatch 0 6 h\n")?;
+    let rows: [(&Layout, Letter, Option<u32>, &[u32], &[u32]); 7] = [
+        (&row, Letter::Z, Some(0), &[], &[1, 2, 3]),
+        (&row, Letter::Z, Some(0), &[], &[1, 2, 3]),
+        (&row, Letter::Y, Some(0), &[], &[0, 1, 2, 3, 4]),
+        (&row, Letter::X, Some(0), &[0], &[2, 3, 6]),
+        (&other, Letter::Z, Some(0), &[], &[0, 1, 2]),
+        (&row, Letter::Y, None, &[], &[0, 1, 4]),
+        (&other, Letter::Z, Some(0), &[], &[0, 1, 2]),
+    ];
+    let mut planner = KeepingPlanner::new(alloc);
+    for (layout, letter, port, held, cells) in rows {
+        let is = keeps(&mut planner, alloc, layout, letter, port, held, cells)?;
+        assert!(rt; is, "at {cells:?}");
+    }
     Ok(())
 }

@@ -49,9 +49,11 @@ fn is_complete(board: &Board) -> bool
 fn behind(text: &[u8], at: usize, register: &Register, bits: &[bool]) -> Option<usize>
     requires name { IsOneLine register.now.name }
     requires bits { IsWithin (length bits.now) register.now }
-    ensures found { IfSome result (λ next. drop at text.now ≡ bits_line (bit_in bits.now) register.now ++ 10 ∷ drop next text.now) }
+    ensures found { IfSome result (λ next. drop at text.now
+        ≡ bits_line (bit_in bits.now) register.now ++ 10 ∷ drop next text.now) }
     ensures within { IfSome result (λ next. next ≤ length text.now) }
-    ensures other { IfNone result ((more : List ℕ) → drop at text.now ≡ bits_line (bit_in bits.now) register.now ++ 10 ∷ more → ⊥) }
+    ensures other { IfNone result ((more : List ℕ)
+        → drop at text.now ≡ bits_line (bit_in bits.now) register.now ++ 10 ∷ more → ⊥) }
 {
     let Some(ended) = ended_line(text, at) else {
         return None;
@@ -75,7 +77,9 @@ fn close_bits(
     requires bits { All (IsWithin (length bits.now)) registers.now }
     requires at { at ≤ length text.now }
     requires few { first + length registers.now < 2 ^ 32 }
-    ensures { MatchOption result (drop at text.now ≡ bits_text registers.now (bit_in bits.now)) (λ line. (k : ℕ) × StopsAt registers.now (bit_in bits.now) (drop at text.now) k × (line ≡ first + k)) }
+    ensures { MatchOption result (drop at text.now ≡ bits_text registers.now (bit_in bits.now))
+        (λ line. (k : ℕ) × StopsAt registers.now (bit_in bits.now) (drop at text.now) k
+        × (line ≡ first + k)) }
 {
     let mut at = at;
     let mut line = first;
@@ -100,7 +104,11 @@ pub(crate) fn close(
     requires circuit { WellFormed circuit.now }
     requires products { board.now.job.products ≡ statics circuit.now.items }
     requires at { at ≤ length text.now }
-    ensures { IfOk result (λ r. (table : List Given) → RightKinds circuit.now.items table → AgreeAll table board.now.history → MatchOption r (Closes table board.now circuit.now.registers (bit_after circuit.now.items table) (drop at text.now)) (Fails table board.now circuit.now.registers (bit_after circuit.now.items table) (drop at text.now))) }
+    ensures { IfOk result (λ r. (table : List Given) → RightKinds circuit.now.items table
+        → AgreeAll table board.now.history → MatchOption r
+        (Closes table board.now circuit.now.registers (bit_after circuit.now.items table)
+        (drop at text.now)) (Fails table board.now circuit.now.registers
+        (bit_after circuit.now.items table) (drop at text.now))) }
 {
     let first = board.history().length() + 2;
     if !is_complete(board) {

@@ -1,13 +1,10 @@
 //! Entry lines, each brought to the board.
 
-ghost use Rattle.std.specs.Prelude.{◌≡◌, ◌≢◌, ◌↔◌, ◌⊎◌, ℕ, ◌+◌, ◌<◌, ◌≤◌, [], slice_get, is_some, length, Some, IfOk, IsTrue, IsFalse};
-ghost use Rattle.patch_layout.specs.Certificate.{Certified};
-ghost use Rattle.patch_layout.specs.Case.{case_of, Ascending};
-ghost use Rattle.patch_layout.specs.Region.{Fit};
+ghost use Rattle.std.specs.Prelude.{◌≡◌, ◌↔◌, ◌⊎◌, ◌+◌, ◌≤◌, [], slice_get, length, Some, IfOk, IsTrue, IsFalse};
 ghost use Rattle.board_core.specs.declared.Entry.TheVariants.{Settle as SettleEntry};
 ghost use Rattle.board_core.specs.Causes.{claim_of};
 ghost use Rattle.board_core.specs.Legal.{Allowed};
-ghost use Rattle.board_core.specs.Position.{past, with_entry, IsLegal};
+ghost use Rattle.board_core.specs.Position.{past, with_entry};
 ghost use Rattle.schedule_text.specs.Text.{Version};
 ghost use Rattle.schedule_text.specs.Lines.{IsShaped, version_of};
 ghost use Rattle.history_replay.specs.Joining.{Joins, MayJoin, CertifiedAs, IsEntered};
@@ -50,8 +47,10 @@ fn is_same(state: Option<u32>, other: Option<u32>) -> bool
 // Claims a region, which takes this state. Where it takes another, the answer is false, and the board is of no further use.
 fn claim(board: &mut Board, by: u32, plan: Plan, state: Option<u32>, node: Node<Noted>) -> bool
     requires { CertifiedAs board.old.job.grid plan }
-    ensures joined { IsTrue result → Allowed board.old.job (past board.old) (claim_of plan state) × (board.new ≡ with_entry board.old by (claim_of plan state)) }
-    ensures barred { IsFalse result → Allowed board.old.job (past board.old) (claim_of plan state) → ⊥ }
+    ensures joined { IsTrue result → Allowed board.old.job (past board.old) (claim_of plan state)
+        × (board.new ≡ with_entry board.old by (claim_of plan state)) }
+    ensures barred { IsFalse result → Allowed board.old.job (past board.old) (claim_of plan state)
+        → ⊥ }
 {
     match board.claim(by, plan, node) {
         Ok(claimed) => is_same(claimed.state, state),
@@ -61,8 +60,11 @@ fn claim(board: &mut Board, by: u32, plan: Plan, state: Option<u32>, node: Node<
 
 // Settles a product, which flips or not as it is said.
 fn settle(board: &mut Board, by: u32, product: u32, flip: bool, node: Node<Noted>) -> bool
-    ensures joined { IsTrue result → Allowed board.old.job (past board.old) (SettleEntry product flip) × (board.new ≡ with_entry board.old by (SettleEntry product flip)) }
-    ensures barred { IsFalse result → Allowed board.old.job (past board.old) (SettleEntry product flip) → ⊥ }
+    ensures joined { IsTrue result → Allowed board.old.job (past board.old)
+        (SettleEntry product flip)
+        × (board.new ≡ with_entry board.old by (SettleEntry product flip)) }
+    ensures barred { IsFalse result → Allowed board.old.job (past board.old)
+        (SettleEntry product flip) → ⊥ }
 {
     let Ok(_place) = board.deliver(by, product, Given::Settled, node) else {
         return false;
@@ -80,7 +82,8 @@ fn settle(board: &mut Board, by: u32, product: u32, flip: bool, node: Node<Noted
 // further use.
 fn enter(alloc: Global, board: &mut Board, table: &[Given], noted: Noted) -> Result<bool, Memory>
     requires { (v : Version) × IsShaped v noted.entry }
-    ensures joined { IfOk result (λ joins. IsTrue joins → Joins table.now board.old noted board.new) }
+    ensures joined { IfOk result (λ joins. IsTrue joins
+        → Joins table.now board.old noted board.new) }
     ensures barred { IfOk result (λ joins. IsFalse joins → MayJoin table.now board.old noted → ⊥) }
 {
     let node = Node::empty(alloc)?;
@@ -117,7 +120,8 @@ pub(crate) fn enter_all(
     requires version { (version ≡ 1) ⊎ (version ≡ 2) }
     requires start { start ≤ length text.now }
     requires new { board.old.history ≡ [] }
-    ensures { IfOk result (IsEntered table.now (version_of version) text.now start board.old board.new) }
+    ensures { IfOk result (IsEntered table.now
+        (version_of version) text.now start board.old board.new) }
 {
     let mut at = start;
     while let Some(ended) = ended_line(text, at) {

@@ -55,9 +55,14 @@ pub fn verify(
     requires new { board.history ≡ [] }
     requires products { board.job.products ≡ statics circuit.now.items }
     requires table { RightKinds circuit.now.items outcomes.now.given }
-    ensures judged { IfOk result (IsVerdict (asked circuit.now board.job outcomes.now.given) text.now) }
-    ensures exact { (v : Version) (h : List Noted) → IsTextOf (asked circuit.now board.job outcomes.now.given) text.now v h → IfOk result (λ r. r ≡ Verdict.Legal (with_history board h)) }
-    ensures first { (line : ℕ) → FirstBad (asked circuit.now board.job outcomes.now.given) text.now line → IfOk result (λ r. r ≡ Verdict.Illegal line) }
+    ensures judged { IfOk result
+        (IsVerdict (asked circuit.now board.job outcomes.now.given) text.now) }
+    ensures exact { (v : Version) (h : List Noted)
+        → IsTextOf (asked circuit.now board.job outcomes.now.given) text.now v h
+        → IfOk result (λ r. r ≡ Verdict.Legal (with_history board h)) }
+    ensures first { (line : ℕ)
+        → FirstBad (asked circuit.now board.job outcomes.now.given) text.now line
+        → IfOk result (λ r. r ≡ Verdict.Illegal line) }
 {
     law_one_first_bad();
     law_legal_or_bad();

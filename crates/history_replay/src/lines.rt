@@ -1,6 +1,6 @@
 //! Lines of a schedule: its header, lines that a line feed ends, and lines of bits.
 
-ghost use Rattle.std.specs.Prelude.{◌≡◌, ◌↔◌, ℕ, ◌+◌, ◌<◌, ◌≤◌, List, [], ◌∷◌, ◌++◌, length, drop, codes, MatchOption, IfSome, IfNone, IsTrue};
+ghost use Rattle.std.specs.Prelude.{◌≡◌, ◌↔◌, ℕ, ◌+◌, ◌≤◌, List, [], ◌∷◌, ◌++◌, length, drop, codes, MatchOption, IfSome, IfNone, IsTrue};
 ghost use Rattle.patch_base.specs.Texts.{digit};
 ghost use Rattle.schedule_text.specs.Text.{Version, header_line, bits_line, bit_in, digits};
 ghost use Rattle.history_replay.specs.Lines.{IsEnded, IsHeader};
@@ -32,7 +32,8 @@ fn is_same(line: &[u8], other: &[u8]) -> bool
 /// The line from a place on, where a line feed ends it.
 pub(crate) fn ended_line(text: &[u8], at: usize) -> Option<Ended<'_>>
     ensures found { IfSome result (λ e. IsEnded text.now at e.line.now e.next) }
-    ensures other { IfNone result ((line rest : List ℕ) → drop at text.now ≡ line ++ 10 ∷ rest → ⊥) }
+    ensures other { IfNone result ((line rest : List ℕ) → drop at text.now ≡ line ++ 10 ∷ rest
+        → ⊥) }
 {
     let Some(line) = next_line(text, at) else {
         return None;
@@ -49,7 +50,8 @@ pub(crate) fn ended_line(text: &[u8], at: usize) -> Option<Ended<'_>>
 /// The header of a text.
 pub(crate) fn read_header(text: &[u8]) -> Option<Header>
     ensures found { IfSome result (λ h. IsHeader text.now h.version h.next) }
-    ensures other { IfNone result ((v : Version) (rest : List ℕ) → text.now ≡ header_line v ++ 10 ∷ rest → ⊥) }
+    ensures other { IfNone result ((v : Version) (rest : List ℕ)
+        → text.now ≡ header_line v ++ 10 ∷ rest → ⊥) }
 {
     let Some(first) = ended_line(text, 0) else {
         return None;
@@ -89,14 +91,17 @@ fn spells(word: &[u8], bits: &[bool], first: usize, size: usize) -> bool
 
 // What comes after the beginning of a line.
 fn behind<'a>(line: &'a [u8], prefix: &[u8]) -> Option<&'a [u8]>
-    ensures { MatchOption result ((rest : List ℕ) → line.now ≡ prefix.now ++ rest → ⊥) (λ rest. line.now ≡ prefix.now ++ rest.now) }
+    ensures { MatchOption result ((rest : List ℕ) → line.now ≡ prefix.now ++ rest
+        → ⊥) (λ rest. line.now ≡ prefix.now ++ rest.now) }
 {
     line.strip_prefix(prefix)
 }
 
 // The digits of a line of bits, after the register's name.
 fn behind_name<'a>(line: &'a [u8], name: &[u8]) -> Option<&'a [u8]>
-    ensures { MatchOption result ((word : List ℕ) → line.now ≡ (codes "bits " ++ name.now ++ codes " ") ++ word → ⊥) (λ word. line.now ≡ (codes "bits " ++ name.now ++ codes " ") ++ word.now) }
+    ensures { MatchOption result ((word : List ℕ)
+        → line.now ≡ (codes "bits " ++ name.now ++ codes " ") ++ word
+        → ⊥) (λ word. line.now ≡ (codes "bits " ++ name.now ++ codes " ") ++ word.now) }
 {
     let Some(named) = behind(line, b"bits ") else {
         return None;

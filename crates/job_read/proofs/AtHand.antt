@@ -1,5 +1,5 @@
 -- From the made texts to what they stand for.
-use Rattle.std.proofs.Common.{◌≡◌, ℕ, ◌≤◌, List, codes, sym, subst, arith}
+use Rattle.std.proofs.Common.{◌≡◌, ℕ, List, codes, sym, subst, arith}
 use Rattle.source_model.specs.declared.Circuit.{Circuit}
 use Rattle.patch_base.specs.Outside.{Rose}
 use Rattle.patch_layout.specs.Grid.{Grid}
@@ -8,7 +8,6 @@ use Rattle.rotation_list.specs.Generated.{big_circuit, big_layout, big_outcomes}
 use Rattle.job_read.specs.declared.fault.JobFault.{JobFault}
 use Rattle.job_read.specs.declared.fault.JobFault.TheVariants as fault
 use Rattle.job_read.specs.Jobs.{LayoutStops, OutcomesStop}
-use Rattle.job_read.specs.Stages.{LayoutStands, OutcomesStand, OutcomesRefused}
 use Rattle.job_read.specs.Made.{IsBigLayout, BigStops, at_hand}
 
 -- what holds of a made text and circuit, and of those at hand

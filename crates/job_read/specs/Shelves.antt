@@ -13,8 +13,9 @@ pub record Shelved : Type 0 where
   pub before : List ℕ → ℕ
   pub after : List ℕ → ℕ
 
-abbrev pub shelved : (List ℕ → Option (List ℕ)) → (List ℕ → ℕ) → (List ℕ → ℕ) → Shelved
-shelved tells before after = record { tells = tells; before = before; after = after }
+-- a shelf before and after a call, which tells the same bytes
+abbrev pub shelved : {S : Type 0} → (S → List ℕ → Option (List ℕ)) → (S → List ℕ → ℕ) → S → S → Shelved
+shelved tells faults old new = record { tells = tells old; before = faults old; after = faults new }
 
 -- one name on it
 abbrev pub seen_on : Shelved → List ℕ → Seen

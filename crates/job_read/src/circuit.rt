@@ -26,17 +26,23 @@ use std::alloc::Global;
 pub fn load_circuit<S: Shelf>(alloc: Global, shelf: &mut S, name: &str) -> Result<Circuit, JobFault>
     ensures told { (n : List ℕ) → S.tells shelf.new n ≡ S.tells shelf.old n }
     ensures counts { (n : List ℕ) → S.faults shelf.old n ≤ S.faults shelf.new n }
-    ensures accepted { let s = seen (S.tells shelf.old) (S.faults shelf.old) (S.faults shelf.new) name.now in
+    ensures accepted { let s = seen (S.tells shelf.old) (S.faults shelf.old)
+        (S.faults shelf.new) name.now in
         IfOk result (CircuitStands s) }
     ensures kept { IfOk result IsCircuit }
-    ensures stops { let s = seen (S.tells shelf.old) (S.faults shelf.old) (S.faults shelf.new) name.now in
+    ensures stops { let s = seen (S.tells shelf.old) (S.faults shelf.old)
+        (S.faults shelf.new) name.now in
         IfErr result (CircuitStops s) }
 
     // A text that is told is accepted or refused for what it says, unless the outside keeps it from being read.
-    ensures exact { let s = seen (S.tells shelf.old) (S.faults shelf.old) (S.faults shelf.new) name.now in
-        (c : Circuit_of) → IsTold s → CircuitStands s c → MatchResult result (λ d. d ≡ c) IsOutside }
-    ensures faults { let s = seen (S.tells shelf.old) (S.faults shelf.old) (S.faults shelf.new) name.now in
-        (f : CircuitFault) → IsTold s → CircuitRefused s f → MatchResult result (λ d. ⊥) (λ e. (e ≡ JobFault.Circuit f) ⊎ IsOutside e) }
+    ensures exact { let s = seen (S.tells shelf.old) (S.faults shelf.old)
+        (S.faults shelf.new) name.now in
+        (c : Circuit_of) → IsTold s → CircuitStands s c
+        → MatchResult result (λ d. d ≡ c) IsOutside }
+    ensures faults { let s = seen (S.tells shelf.old) (S.faults shelf.old)
+        (S.faults shelf.new) name.now in
+        (f : CircuitFault) → IsTold s → CircuitRefused s f
+        → MatchResult result (λ d. ⊥) (λ e. (e ≡ JobFault.Circuit f) ⊎ IsOutside e) }
 {
     law_one_tree();
     law_tree_or_fault();

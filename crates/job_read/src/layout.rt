@@ -1,6 +1,6 @@
 //! A layout read from a shelf.
 
-ghost use Rattle.std.specs.Prelude.{◌≡◌, ◌⊎◌, ℕ, ◌≤◌, List, length, IfOk, IfErr, MatchResult};
+ghost use Rattle.std.specs.Prelude.{◌≡◌, ◌⊎◌, ℕ, ◌≤◌, List, IfOk, IfErr, MatchResult};
 ghost use Rattle.source_model.specs.Circuits.{WellFormed};
 ghost use Rattle.source_model.specs.Statics.{statics};
 ghost use Rattle.patch_layout.specs.Grid.{Grid, Sound};
@@ -36,17 +36,24 @@ pub fn load_layout<S: Shelf>(
     requires products { products.now ≡ statics circuit.now.items }
     ensures told { (n : List ℕ) → S.tells shelf.new n ≡ S.tells shelf.old n }
     ensures counts { (n : List ℕ) → S.faults shelf.old n ≤ S.faults shelf.new n }
-    ensures accepted { let s = seen (S.tells shelf.old) (S.faults shelf.old) (S.faults shelf.new) word.now in
+    ensures accepted { let s = seen (S.tells shelf.old) (S.faults shelf.old)
+        (S.faults shelf.new) word.now in
         IfOk result (LayoutStands word.now s circuit.now) }
     ensures sound { IfOk result Sound }
-    ensures stops { let s = seen (S.tells shelf.old) (S.faults shelf.old) (S.faults shelf.new) word.now in
+    ensures stops { let s = seen (S.tells shelf.old) (S.faults shelf.old)
+        (S.faults shelf.new) word.now in
         IfErr result (LayoutStops word.now s circuit.now) }
 
     // A layout that is told is accepted or refused for what it is, unless the outside keeps it from being read.
-    ensures exact { let s = seen (S.tells shelf.old) (S.faults shelf.old) (S.faults shelf.new) word.now in
-        (g : Grid) → (IsNamed word.now → IsTold s) → LayoutStands word.now s circuit.now g → MatchResult result (λ l. l ≡ g) IsOutside }
-    ensures faults { let s = seen (S.tells shelf.old) (S.faults shelf.old) (S.faults shelf.new) word.now in
-        (f : LayoutFault_of) → (IsNamed word.now → IsTold s) → LayoutRefused word.now s circuit.now f → MatchResult result (λ l. ⊥) (λ e. (e ≡ JobFault.Layout f) ⊎ IsOutside e) }
+    ensures exact { let s = seen (S.tells shelf.old) (S.faults shelf.old)
+        (S.faults shelf.new) word.now in
+        (g : Grid) → (IsNamed word.now → IsTold s) → LayoutStands word.now s circuit.now g
+        → MatchResult result (λ l. l ≡ g) IsOutside }
+    ensures faults { let s = seen (S.tells shelf.old) (S.faults shelf.old)
+        (S.faults shelf.new) word.now in
+        (f : LayoutFault_of) → (IsNamed word.now → IsTold s)
+        → LayoutRefused word.now s circuit.now f
+        → MatchResult result (λ l. ⊥) (λ e. (e ≡ JobFault.Layout f) ⊎ IsOutside e) }
 {
     let need = need(alloc, circuit, products)?;
     if word == "-" {

@@ -16,8 +16,11 @@ pub fn read_limited<S: Shelf>(
 ) -> Result<Vec<u8>, JobFault>
     ensures told { (n : List ℕ) → S.tells shelf.new n ≡ S.tells shelf.old n }
     ensures counts { (n : List ℕ) → S.faults shelf.old n ≤ S.faults shelf.new n }
-    ensures text { IfOk result (λ text. IfSome (S.tells shelf.old name.now) (λ bytes. text.items ≡ take 4194305 bytes)) }
-    ensures failed { IfErr result (λ e. (e ≡ JobFault.Memory) ⊎ ((e ≡ JobFault.Read which) × Rose (S.faults shelf.old name.now) (S.faults shelf.new name.now))) }
+    ensures text { IfOk result (λ text. IfSome (S.tells shelf.old name.now)
+        (λ bytes. text.items ≡ take 4194305 bytes)) }
+    ensures failed { IfErr result (λ e. (e ≡ JobFault.Memory)
+        ⊎ ((e ≡ JobFault.Read which) × Rose (S.faults shelf.old name.now)
+        (S.faults shelf.new name.now))) }
 {
     match read_text(alloc, shelf, name, TEXT_BYTES) {
         Ok(text) => Ok(text),

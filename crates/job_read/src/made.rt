@@ -1,6 +1,6 @@
 //! A job that is made from a number.
 
-ghost use Rattle.std.specs.Prelude.{◌≡◌, ℕ, ◌≤◌, IfOk, IfErr};
+ghost use Rattle.std.specs.Prelude.{◌≤◌, IfOk, IfErr};
 ghost use Rattle.job_read.specs.declared.Job.{Job as Job_of};
 ghost use Rattle.job_read.specs.Kept.{IsJob};
 ghost use Rattle.job_read.specs.Jobs.{IsOutside};

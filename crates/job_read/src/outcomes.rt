@@ -37,18 +37,24 @@ pub fn load_outcomes<S: Shelf>(
     requires products { products.now ≡ statics circuit.now.items }
     ensures told { (n : List ℕ) → S.tells shelf.new n ≡ S.tells shelf.old n }
     ensures counts { (n : List ℕ) → S.faults shelf.old n ≤ S.faults shelf.new n }
-    ensures accepted { let s = seen (S.tells shelf.old) (S.faults shelf.old) (S.faults shelf.new) name.now in
+    ensures accepted { let s = seen (S.tells shelf.old) (S.faults shelf.old)
+        (S.faults shelf.new) name.now in
         IfOk result (OutcomesStand s circuit.now layout.now) }
     ensures kinds { IfOk result (λ o. RightKinds circuit.now.items o.given) }
     ensures few { IfOk result (λ o. length o.fails ≤ 4096) }
-    ensures stops { let s = seen (S.tells shelf.old) (S.faults shelf.old) (S.faults shelf.new) name.now in
+    ensures stops { let s = seen (S.tells shelf.old) (S.faults shelf.old)
+        (S.faults shelf.new) name.now in
         IfErr result (OutcomesStop s circuit.now layout.now) }
 
     // A text that is told is accepted or refused for what it says, unless the outside keeps it from being read.
-    ensures exact { let s = seen (S.tells shelf.old) (S.faults shelf.old) (S.faults shelf.new) name.now in
-        (o : Outcomes_of) → IsTold s → OutcomesStand s circuit.now layout.now o → MatchResult result (λ p. p ≡ o) IsOutside }
-    ensures faults { let s = seen (S.tells shelf.old) (S.faults shelf.old) (S.faults shelf.new) name.now in
-        (f : OutcomeFault_of) → IsTold s → OutcomesRefused s circuit.now layout.now f → MatchResult result (λ p. ⊥) (λ e. (e ≡ JobFault.Outcomes f) ⊎ IsOutside e) }
+    ensures exact { let s = seen (S.tells shelf.old) (S.faults shelf.old)
+        (S.faults shelf.new) name.now in
+        (o : Outcomes_of) → IsTold s → OutcomesStand s circuit.now layout.now o
+        → MatchResult result (λ p. p ≡ o) IsOutside }
+    ensures faults { let s = seen (S.tells shelf.old) (S.faults shelf.old)
+        (S.faults shelf.new) name.now in
+        (f : OutcomeFault_of) → IsTold s → OutcomesRefused s circuit.now layout.now f
+        → MatchResult result (λ p. ⊥) (λ e. (e ≡ JobFault.Outcomes f) ⊎ IsOutside e) }
 {
     law_kinds();
     let kinds = kinds_of(alloc, products)?;
@@ -83,7 +89,8 @@ fn factories(alloc: Global, layout: &Layout) -> Result<Vec<u32>, Memory>
 // Appends the factory whose port is at the cell, if there is one.
 fn push_factory(layout: &Layout, cell: u32, found: &mut Vec<u32>) -> Result<(), Memory>
     requires { cell < length layout.now.sites }
-    ensures { IfOk result (λ _. found.new.items ++ factories_in (drop (cell + 1) layout.now.sites) ≡ found.old.items ++ factories_in (drop cell layout.now.sites)) }
+    ensures { IfOk result (λ _. found.new.items ++ factories_in (drop (cell + 1) layout.now.sites)
+        ≡ found.old.items ++ factories_in (drop cell layout.now.sites)) }
 {
     if let Tile::Port { factory } = layout.tile(cell) {
         found.push(factory)?;

@@ -33,20 +33,26 @@ pub fn read_job<S: Shelf>(
     outcomes: &str,
 ) -> Result<Job, JobFault>
     // The texts that the shelf tells stand for the job.
-    ensures accepted { let r = reading (S.tells shelf.old) (S.faults shelf.old) (S.faults shelf.new) circuit.now layout.now outcomes.now in
+    ensures accepted { let r = reading (S.tells shelf.old) (S.faults shelf.old)
+        (S.faults shelf.new) circuit.now layout.now outcomes.now in
         IfOk result (StandsForJob r) }
     ensures kept { IfOk result IsJob }
 
     // A fault of the shelf comes only where the count of the text's name rose in this call and the texts before it
     // are accepted, and a refusal has the fault of the first text that is refused.
-    ensures because { let r = reading (S.tells shelf.old) (S.faults shelf.old) (S.faults shelf.new) circuit.now layout.now outcomes.now in
+    ensures because { let r = reading (S.tells shelf.old) (S.faults shelf.old)
+        (S.faults shelf.new) circuit.now layout.now outcomes.now in
         IfErr result (Because r) }
 
     // Texts that are told are accepted or refused for what they say, unless the outside keeps them from being read.
-    ensures exact { let r = reading (S.tells shelf.old) (S.faults shelf.old) (S.faults shelf.new) circuit.now layout.now outcomes.now in
-        (job : Job_of) → TellsAll r → StandsForJob r job → MatchResult result (λ j. j ≡ job) IsOutside }
-    ensures faults { let r = reading (S.tells shelf.old) (S.faults shelf.old) (S.faults shelf.new) circuit.now layout.now outcomes.now in
-        (f : JobFault_of) → TellsUpTo r f → Refuses r f → MatchResult result (λ j. ⊥) (λ e. (e ≡ f) ⊎ IsOutside e) }
+    ensures exact { let r = reading (S.tells shelf.old) (S.faults shelf.old)
+        (S.faults shelf.new) circuit.now layout.now outcomes.now in
+        (job : Job_of) → TellsAll r → StandsForJob r job
+        → MatchResult result (λ j. j ≡ job) IsOutside }
+    ensures faults { let r = reading (S.tells shelf.old) (S.faults shelf.old)
+        (S.faults shelf.new) circuit.now layout.now outcomes.now in
+        (f : JobFault_of) → TellsUpTo r f → Refuses r f
+        → MatchResult result (λ j. ⊥) (λ e. (e ≡ f) ⊎ IsOutside e) }
 
     // What the shelf tells stays, and no count falls.
     ensures told { (n : List ℕ) → S.tells shelf.new n ≡ S.tells shelf.old n }

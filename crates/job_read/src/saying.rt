@@ -23,7 +23,8 @@ pub fn say_job<E: Sink>(
 ) -> u8
     ensures status { result ≡ job_status fault }
     ensures counts { E.faults err.old ≤ E.faults err.new }
-    ensures said { Said (writing (E.taken err.old) (E.taken err.new) (E.faults err.old) (E.faults err.new)) (job_line circuit.now layout.now outcomes.now fault) }
+    ensures said { Said (writing E.taken E.faults err.old err.new)
+        (job_line circuit.now layout.now outcomes.now fault) }
 {
     say_line(err, line_of(fault, circuit, layout, outcomes));
     status_of(fault)

@@ -5,7 +5,7 @@
 //! rows with many products have such a set of those below; the few products of the rows between are
 //! compared one by one.
 
-ghost use Rattle.std.specs.Prelude.{◌≡◌, ℕ, ◌+◌, ◌-◌, ◌<◌, ◌≤◌, ◌^◌, ◌++◌, ◌∷◌, [], false, List, length, slice_index, slice_index_or, slice_set, max, None, Some, IfOk, IfSome, OnOk, All};
+ghost use Rattle.std.specs.Prelude.{◌≡◌, ℕ, ◌+◌, ◌-◌, ◌<◌, ◌≤◌, ◌^◌, ◌++◌, ◌∷◌, [], List, length, slice_index, slice_index_or, slice_set, max, None, Some, IfOk, IfSome, OnOk, All};
 ghost use Rattle.pauli_product.specs.Signed.{Signed};
 ghost use Rattle.commute_order.specs.declared.Uses.{Uses};
 ghost use Rattle.commute_order.specs.Commuting.{IsOrder, LeastWait};
@@ -233,7 +233,8 @@ fn search(
 fn put(alloc: Global, rows: &mut Vec<NumberList>, k: u32, p: u32) -> Result<(), Memory>
     requires { k ≤ length rows.old.items }
     ensures old { OnOk result (k < length rows.old.items →
-        rows.new.items ≡ slice_set rows.old.items k (slice_index_or rows.old.items k [] ++ p ∷ [])) }
+        rows.new.items ≡ slice_set rows.old.items k
+        (slice_index_or rows.old.items k [] ++ p ∷ [])) }
     ensures new { OnOk result (k ≡ length rows.old.items →
         rows.new.items ≡ rows.old.items ++ (p ∷ []) ∷ []) }
 {

@@ -1,14 +1,14 @@
 //! The planner of least regions.
 
-ghost use Rattle.std.specs.Prelude.{◌≡◌, ℕ, ◌≤◌, length};
+ghost use Rattle.std.specs.Prelude.{◌≡◌, ℕ, length};
 ghost use Rattle.region_plan.specs.Free.{HasLetter};
-ghost use Rattle.region_plan.specs.Answer.{Answers};
+ghost use Rattle.region_plan.specs.Answer.{Answers, LeastJoined};
 ghost use Rattle.least_region.specs.Least.{LeastAnswers, LeastOrJoined};
 
 use crate::shrink::shrink;
 use crate::width::sides_in;
 use patch_layout::{Layout, Look, Plan};
-use region_plan::{Planned, Planner, plan};
+use region_plan::{KeepingPlanner, Planned, Planner, plan};
 use std::alloc::Global;
 
 // The most sides for which a least region is looked for.
@@ -47,7 +47,8 @@ pub fn least_plan(alloc: Global, layout: &Layout, look: &Look) -> LeastPlanned
     ensures { LeastAnswers layout.now look.now result }
 {
     let sides = sides_in(look);
-    match planned(alloc, layout, look) {
+    let joined = plan(alloc, layout, look);
+    match shrunk(alloc, layout, look, joined) {
         Planned::Taken { place } => LeastPlanned::Taken { place },
         Planned::NotReady { on } => LeastPlanned::NotReady { on },
         Planned::NoReady => LeastPlanned::NoReady,
@@ -69,38 +70,46 @@ pub fn least_plan(alloc: Global, layout: &Layout, look: &Look) -> LeastPlanned
     }
 }
 
-// What `plan` answers, with a least region in place of its own for a look of at most six sides.
-fn planned(alloc: Global, layout: &Layout, look: &Look) -> Planned
+// What `plan` answered, with a least region in place of its own for a look of at most six sides.
+fn shrunk(alloc: Global, layout: &Layout, look: &Look, planned: Planned) -> Planned
     requires held { length look.now.held ≡ length layout.now.sites }
     requires letter { (q : ℕ) × HasLetter look.now.axis q }
+    requires planned { Answers (LeastJoined layout.now look.now) layout.now look.now planned }
     ensures { Answers (LeastOrJoined layout.now look.now) layout.now look.now result }
 {
-    match plan(alloc, layout, look) {
-        Planned::Region(joined) => {
-            if sides_in(look) > MOST_SIDES {
-                return Planned::Region(joined);
-            }
-            match shrink(alloc, layout, look, joined) {
-                Ok(least) => Planned::Region(least),
-                Err(_) => Planned::Memory,
-            }
-        }
-        Planned::Taken { place } => Planned::Taken { place },
-        Planned::NotReady { on } => Planned::NotReady { on },
-        Planned::NoReady => Planned::NoReady,
-        Planned::Blocked => Planned::Blocked,
-        Planned::Memory => Planned::Memory,
+    let joined = match planned {
+        Planned::Region(joined) => joined,
+        refused => return refused,
+    };
+    if sides_in(look) > MOST_SIDES {
+        return Planned::Region(joined);
+    }
+    match shrink(alloc, layout, look, joined) {
+        Ok(least) => Planned::Region(least),
+        Err(_) => Planned::Memory,
     }
 }
 
-/// `least_plan` as a planner, and `plan` for a look of more than six sides.
-#[derive(Clone, Copy, Debug)]
-pub struct LeastPlanner;
+/// `least_plan` as a planner that keeps walks from plan to plan, and `plan` for a look of more than six sides.
+#[derive(Drop)]
+pub struct LeastPlanner {
+    joining: KeepingPlanner,
+}
+
+impl LeastPlanner {
+    /// A planner that has planned nothing yet.
+    pub fn new(alloc: Global) -> LeastPlanner {
+        LeastPlanner {
+            joining: KeepingPlanner::new(alloc),
+        }
+    }
+}
 
 impl Planner for LeastPlanner {
     ghost meets = { LeastOrJoined };
 
     fn plan(&mut self, alloc: Global, layout: &Layout, look: &Look) -> Planned {
-        planned(alloc, layout, look)
+        let joined = self.joining.plan(alloc, layout, look);
+        shrunk(alloc, layout, look, joined)
     }
 }

@@ -1,6 +1,6 @@
 //! What a look leaves to a region.
 
-ghost use Rattle.std.specs.Prelude.{◌≡◌, ℕ, ◌<◌, ◌↔◌, length, IsTrue, IfOk};
+ghost use Rattle.std.specs.Prelude.{◌≡◌, ℕ, ◌↔◌, length, IsTrue, IfOk};
 ghost use Rattle.patch_layout.specs.Grid.{IsPort};
 ghost use Rattle.region_plan.specs.Free.{IsUnheld, IsReady, IsOffered, Free};
 ghost use Rattle.least_region.specs.inside.Pick.{FreeMarks};

@@ -1,7 +1,6 @@
 //! Growth by one cell.
 
-ghost use Rattle.std.specs.Prelude.{◌≡◌, ℕ, ◌<◌, ◌≤◌, length, slice_get, Some, IfOk};
-ghost use Rattle.patch_layout.specs.Grid.{Sound};
+ghost use Rattle.std.specs.Prelude.{◌≡◌, ◌<◌, ◌≤◌, length, Some, IfOk};
 ghost use Rattle.least_region.specs.inside.Growth.{Under, Keeps, Lowered, Queued, Spreads};
 
 use patch_base::Memory;

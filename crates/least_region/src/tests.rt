@@ -1,6 +1,6 @@
 //! What is answered for looks at small layouts.
 
-ghost use Rattle.std.specs.Prelude.{◌≡◌, ℕ, ◌≤◌, ◌^◌, ◌<◌, length, IfOk, IsTrue};
+ghost use Rattle.std.specs.Prelude.{ℕ, ◌≤◌, ◌<◌, length, IsTrue};
 ghost use Rattle.region_plan.specs.Free.{HasLetter};
 
 use crate::answer::{LeastPlanned, least_plan};

@@ -51,7 +51,8 @@ impl Factory {
 
     /// Whether a run would begin, and the store is full.
     pub(crate) fn is_stocked(&self) -> bool
-        ensures { result ≡ (self.now.steps % 11 == 0 && nat_le self.now.store (length self.now.ready.items)) }
+        ensures { result ≡ (self.now.steps % 11 == 0 && nat_le self.now.store
+            (length self.now.ready.items)) }
     {
         self.steps % RUN == 0 && self.ready.len() >= self.store as usize
     }
@@ -63,7 +64,8 @@ impl Factory {
         requires sorted { IsNonDecreasing self.old.failing.items }
         ensures outcome { result ≡ outcome_here self.old.failing.items (self.old.steps + 1) made }
         ensures steps { self.new.steps ≡ self.old.steps + 1 }
-        ensures ready { self.new.ready.items ≡ ready_after self.old.failing.items (self.old.steps + 1) made self.old.ready.items }
+        ensures ready { self.new.ready.items ≡ ready_after self.old.failing.items
+            (self.old.steps + 1) made self.old.ready.items }
         ensures store { self.new.store ≡ self.old.store }
         ensures failing { self.new.failing.items ≡ self.old.failing.items }
     {
@@ -111,7 +113,8 @@ fn store_in(makers: &[Maker], factory: u32) -> u32
 
 fn runs_of(alloc: Global, fails: &[Fail], factory: u32) -> Result<Vec<u32>, Memory>
     ensures sorted { IfOk result (λ runs. IsNonDecreasing runs.items) }
-    ensures listed { IfOk result (λ runs. (run : ℕ) → list_any (λ r. r == run) runs.items ≡ is_listed fails.now factory run) }
+    ensures listed { IfOk result (λ runs. (run : ℕ)
+        → list_any (λ r. r == run) runs.items ≡ is_listed fails.now factory run) }
 {
     let mut runs = Vec::new(alloc);
     for fail in fails {

@@ -68,8 +68,10 @@ impl Pool {
     /// that of the ready states, which is the store.
     pub fn step(&mut self, f: u32) -> Result<Stepped, StepRefused>
         requires { HasFewer self.old (2 ^ 32 - 1) }
-        ensures answer { (steps taken : List ℕ) → Recounts self.old steps taken → result ≡ step_answer self.old.makers self.old.fails steps taken f }
-        ensures history { OnOk result ((steps taken : List ℕ) → Recounts self.old steps taken → Recounts self.new (steps ++ f ∷ []) taken) }
+        ensures answer { (steps taken : List ℕ) → Recounts self.old steps taken
+            → result ≡ step_answer self.old.makers self.old.fails steps taken f }
+        ensures history { OnOk result ((steps taken : List ℕ) → Recounts self.old steps taken
+            → Recounts self.new (steps ++ f ∷ []) taken) }
         ensures stocked { (n : ℕ) → result ≡ Err (Stocked n) → n ≡ store_of self.old.makers f }
         ensures refused { OnErr result (self.new ≡ self.old) }
         ensures makers { self.new.makers ≡ self.old.makers }
@@ -96,7 +98,8 @@ impl Pool {
 
     /// How many states of a factory are ready, at most its store, and 0 for a factory that isn't there.
     pub fn ready(&self, f: u32) -> u32
-        ensures count { (steps taken : List ℕ) → Recounts self.now steps taken → result ≡ length (ready_of self.now.fails steps taken f) }
+        ensures count { (steps taken : List ℕ) → Recounts self.now steps taken
+            → result ≡ length (ready_of self.now.fails steps taken f) }
         ensures store { result ≤ store_of self.now.makers f }
     {
         if f as usize >= self.factories.len() {
@@ -107,8 +110,10 @@ impl Pool {
 
     /// Takes the least ready state of a factory. None where none is ready, and then nothing changes.
     pub fn take(&mut self, f: u32) -> Option<u32>
-        ensures least { (steps taken : List ℕ) → Recounts self.old steps taken → result ≡ first_of_list (ready_of self.old.fails steps taken f) }
-        ensures history { (steps taken : List ℕ) → Recounts self.old steps taken → Recounts self.new steps (taken ++ option_to_list result) }
+        ensures least { (steps taken : List ℕ) → Recounts self.old steps taken
+            → result ≡ first_of_list (ready_of self.old.fails steps taken f) }
+        ensures history { (steps taken : List ℕ) → Recounts self.old steps taken
+            → Recounts self.new steps (taken ++ option_to_list result) }
         ensures none { IfNone result (self.new ≡ self.old) }
         ensures makers { self.new.makers ≡ self.old.makers }
         ensures fails { self.new.fails ≡ self.old.fails }

@@ -26,7 +26,9 @@ impl<T> Model for Log<T> {
 
     ghost view = { λ l. values l.chain.nodes };
 
-    ghost invariant = { λ l. (l.len ≡ length l.chain.nodes) × (l.len < 2 ^ 32) × (l.head.ptr ≡ l.chain.head) × (0 < l.len → l.tail.ptr ≡ last_place l.chain.head l.chain.nodes) };
+    ghost invariant = { λ l. (l.len ≡ length l.chain.nodes) × (l.len < 2 ^ 32)
+        × (l.head.ptr ≡ l.chain.head) × (0 < l.len
+        → l.tail.ptr ≡ last_place l.chain.head l.chain.nodes) };
 }
 
 /// A walk over a log, seen as the values that it has left.
@@ -46,7 +48,9 @@ impl<'a, T> Model for Walk<'a, T> {
 
     ghost view = { λ w. drop w.from (values w.chain.now.nodes) };
 
-    ghost invariant = { λ w. (w.from + w.left ≡ length w.chain.now.nodes) × (w.from + w.left < 2 ^ 32) × (w.at.ptr ≡ place_of w.chain.now.head w.chain.now.nodes w.from) };
+    ghost invariant = { λ w. (w.from + w.left ≡ length w.chain.now.nodes)
+        × (w.from + w.left < 2 ^ 32)
+        × (w.at.ptr ≡ place_of w.chain.now.head w.chain.now.nodes w.from) };
 }
 
 impl<T> Log<T> {
@@ -90,7 +94,8 @@ impl<T> Log<T> {
 
     /// The value at a place, counted from 0. None at the length and past it.
     pub fn get(&self, place: u32) -> Option<&T>
-        ensures { MatchOption result (length self.now ≤ place) (λ x. slice_get self.now place ≡ Some x.now) }
+        ensures { MatchOption result (length self.now ≤ place)
+            (λ x. slice_get self.now place ≡ Some x.now) }
     {
         if place >= self.len {
             return None;
@@ -104,7 +109,8 @@ impl<T> Log<T> {
 
     /// The value that was pushed last, in constant time. None where there are no values.
     pub fn last(&self) -> Option<&T>
-        ensures { MatchOption result (self.now ≡ []) (λ x. slice_get self.now (length self.now - 1) ≡ Some x.now) }
+        ensures { MatchOption result (self.now ≡ [])
+            (λ x. slice_get self.now (length self.now - 1) ≡ Some x.now) }
     {
         if self.len == 0 {
             return None;

@@ -13,7 +13,8 @@ use std::marker::{Send, Sync};
 /// The rule holds between any two steps of any threads, so this does: no number is drawn twice, and
 /// a hand is spent only where every shared number was drawn.
 pub fn law_once()
-    ensures { (numbers owners : ℕ) (s : State (Unit {0}) View) → Kept numbers owners s → Moment numbers s }
+    ensures { (numbers owners : ℕ) (s : State (Unit {0}) View) → Kept numbers owners s
+        → Moment numbers s }
 {}
 
 fn is_shared<T: Sync>() {}

@@ -28,9 +28,16 @@ impl Model for Share {
 
     ghost Value = { Named };
 
-    ghost view = { λ s. record { id = s.table.shared.table_id; numbers = s.numbers; owners = s.table.shared.key.owners } };
+    ghost view = { λ s.
+        record {
+          id = s.table.shared.table_id;
+          numbers = s.numbers;
+          owners = s.table.shared.key.owners;
+        } };
 
-    ghost invariant = { λ s. (s.table.shared.table_id.words ≡ 1) × (s.table.shared.table_id.slots ≡ 0) × (s.table.shared.key.numbers ≡ s.numbers) × (0 < s.table.shared.key.owners) };
+    ghost invariant = { λ s. (s.table.shared.table_id.words ≡ 1)
+        × (s.table.shared.table_id.slots ≡ 0) × (s.table.shared.key.numbers ≡ s.numbers)
+        × (0 < s.table.shared.key.owners) };
 }
 
 /// One owner's access to a share, and the numbers that it took and that were put back. Contracts
@@ -52,9 +59,17 @@ impl Model for Hand {
 
     ghost Value = { Owner };
 
-    ghost view = { λ h. record { share = h.seat.table_id; numbers = h.seat.me.0.numbers; past = h.seat.me.0.past; held = h.held.items; left = h.left.items } };
+    ghost view = { λ h.
+        record {
+          share = h.seat.table_id;
+          numbers = h.seat.me.0.numbers;
+          past = h.seat.me.0.past;
+          held = h.held.items;
+          left = h.left.items;
+        } };
 
-    ghost invariant = { λ h. Rests h.seat.me h.spent h.held.items h.left.items (vec_capacity h.held) (deque_capacity h.left) };
+    ghost invariant = { λ h. Rests h.seat.me h.spent h.held.items h.left.items (vec_capacity h.held)
+        (deque_capacity h.left) };
 }
 
 impl Hand {
@@ -71,7 +86,8 @@ impl Hand {
     pub fn take(&mut self, share: &Share) -> Option<u32>
         requires { IsOf share.now self.old }
         ensures share { IsOf share.now self.new }
-        ensures taken { IfSome result (λ n. (n < share.now.numbers) × (self.new.held ≡ self.old.held ++ n ∷ [])) }
+        ensures taken { IfSome result (λ n. (n < share.now.numbers)
+            × (self.new.held ≡ self.old.held ++ n ∷ [])) }
         ensures once { IfSome result (λ n. ¬ (Contains self.old.held n)) }
         ensures none { IsNone result ↔ (IsSpent self.new × (self.old.left ≡ [])) }
         ensures kept { IfNone result (self.new.held ≡ self.old.held) }
@@ -89,9 +105,11 @@ impl Hand {
     fn draw(&mut self, share: &Share) -> Option<u32>
         requires share { IsOf share.now self.old }
         requires unspent { self.old.past ≡ [] }
-        ensures drawn { IfSome result (λ n. (n < self.old.numbers) × (self.new ≡ drawing self.old n)) }
+        ensures drawn { IfSome result (λ n. (n < self.old.numbers)
+            × (self.new ≡ drawing self.old n)) }
         ensures once { IfSome result (λ n. ¬ (Contains self.old.held n)) }
-        ensures ended { IfNone result ((r : ℕ) × (self.old.numbers ≤ r) × (self.new ≡ spending self.old r)) }
+        ensures ended { IfNone result ((r : ℕ) × (self.old.numbers ≤ r)
+            × (self.new ≡ spending self.old r)) }
     {
         let read = draw(&share.table.shared, &mut self.seat);
         if read >= u64::from(share.numbers) {
@@ -132,9 +150,11 @@ impl Hand {
 // A hand with the room for all numbers.
 fn deal(alloc: Global, core: &Core, root: &mut HandSeat, numbers: u32) -> Result<Hand, Memory>
     requires core { (core.now.table_id.words ≡ 1) × (root.old.table_id ≡ core.now.table_id) }
-    requires root { (0 < root.old.me.0.part) × (root.old.me ≡ (opener numbers root.old.me.0.part, [])) }
+    requires root { (0 < root.old.me.0.part) ×
+        (root.old.me ≡ (opener numbers root.old.me.0.part, [])) }
     ensures same { root.new.table_id ≡ root.old.table_id }
-    ensures dealt { IfOk result (λ h. (h ≡ unused core.now.table_id numbers) × (root.new.me ≡ (opener numbers (root.old.me.0.part - 1), []))) }
+    ensures dealt { IfOk result (λ h. (h ≡ unused core.now.table_id numbers)
+        × (root.new.me ≡ (opener numbers (root.old.me.0.part - 1), []))) }
 {
     let held = Vec::with_capacity(alloc, numbers as usize)?;
     let left = VecDeque::with_capacity(alloc, numbers as usize)?;
@@ -213,7 +233,8 @@ impl Share {
         requires all { length hands.items ≡ self.owners }
         requires hands { All (IsOf self) hands.items }
         // What is left and what the hands hold are together the shared numbers, each once.
-        ensures once { IfOk result (λ v. HasEachOnce self.numbers (v.items ++ flat_map (λ (h : Owner). h.held) hands.items)) }
+        ensures once { IfOk result (λ v. HasEachOnce self.numbers
+            (v.items ++ flat_map (λ (h : Owner). h.held) hands.items)) }
         ensures left { IfOk result (λ v. LeavesPut self.numbers hands.items v.items) }
     {
         let mut left = put_back(alloc, &hands)?;

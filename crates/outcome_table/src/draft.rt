@@ -51,7 +51,8 @@ impl Draft {
     ) -> Result<(), OutcomeFault>
         requires { length self.old.table.items ≡ length kinds.now }
         ensures kept { OnOk result ((ls : List Line_of) → Holds kinds.now ls self.old
-            → Takes (record { kinds = kinds.now; factories = factories.now }) ls text.now self.new) }
+            → Takes (record { kinds = kinds.now; factories = factories.now }) ls text.now
+            self.new) }
         ensures broken { IfErr result (λ f. (ls : List Line_of) → Holds kinds.now ls self.old
             → (f ≡ fault.Memory) ⊎ BreaksText
             (record { kinds = kinds.now; factories = factories.now }) ls number text.now f) }

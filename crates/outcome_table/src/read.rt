@@ -36,7 +36,8 @@ pub fn read_outcomes(
     factories: &[u32],
 ) -> Result<Outcomes, OutcomeFault>
     ensures accepted { IfOk result (λ o.
-        StandsFor (record { kinds = kinds.now; factories = factories.now }) text.now o.given o.fails) }
+        StandsFor (record { kinds = kinds.now; factories = factories.now }) text.now o.given
+        o.fails) }
     ensures exact { (given : List Given_of) (fails : List Fail_of)
         → StandsFor (record { kinds = kinds.now; factories = factories.now }) text.now given fails
         → MatchResult result (λ o. (o.given ≡ given) × (o.fails ≡ fails)) (λ f. f ≡ fault.Memory) }
@@ -57,7 +58,8 @@ fn read(
     factories: &[u32],
 ) -> Result<Outcomes, OutcomeFault>
     ensures accepted { IfOk result (λ o.
-        StandsFor (record { kinds = kinds.now; factories = factories.now }) text.now o.given o.fails) }
+        StandsFor (record { kinds = kinds.now; factories = factories.now }) text.now o.given
+        o.fails) }
     ensures refused { IfErr result (λ f. (f ≡ fault.Memory)
         ⊎ Refuses (record { kinds = kinds.now; factories = factories.now }) text.now f) }
 {

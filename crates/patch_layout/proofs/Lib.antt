@@ -4,6 +4,7 @@ pub mod Places
 pub mod Walking
 pub mod Neighbours
 pub mod Looking
+pub mod Finding
 pub mod Fits
 pub mod Judging
 pub mod OnSides

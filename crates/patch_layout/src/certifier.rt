@@ -1,8 +1,7 @@
 //! Certificates of regions.
 
-ghost use Rattle.std.specs.Prelude.{◌≡◌, ◌≢◌, ℕ, ◌+◌, ◌<◌, ◌≤◌, ◌^◌, length, slice_get, List, Option, Some, None, IfOk, All, AllPairs, Contains, vec_len, is_some, IsTrue, ◌↔◌};
+ghost use Rattle.std.specs.Prelude.{◌≡◌, ◌≢◌, ℕ, ◌<◌, ◌≤◌, length, slice_get, Option, Some, None, IfOk, All, AllPairs, is_some, IsTrue, ◌↔◌};
 ghost use Rattle.patch_layout.specs.Grid.{Sound};
-ghost use Rattle.patch_layout.specs.Spread.{Marked};
 ghost use Rattle.patch_layout.specs.Tree.{Placed, Tree, Named};
 ghost use Rattle.patch_layout.specs.Certificate.{CellFits, ParentFits, Each, Certified};
 ghost use Rattle.patch_layout.specs.Case.{case_of, Ascending};
@@ -67,7 +66,8 @@ fn root_at_first(
     requires places { length places.old ≡ length layout.now.sites }
     requires seen { length seen.old ≡ length layout.now.sites }
     requires parents { length parents.old ≡ length cells.now }
-    ensures { IfOk result (λ _. AreJoined layout.now cells.now → Each (ParentFits layout.now cells.now parents.new) (length cells.now)) }
+    ensures { IfOk result (λ _. AreJoined layout.now cells.now
+        → Each (ParentFits layout.now cells.now parents.new) (length cells.now)) }
 {
     place(cells, marks, places);
     let first = [cells[0]];
@@ -81,7 +81,8 @@ fn parents_of(alloc: Global, layout: &Layout, cells: &[u32]) -> Result<Vec<Paren
     requires some { 0 < length cells.now }
     requires cells { Each (CellFits layout.now cells.now) (length cells.now) }
     ensures sizes { IfOk result (λ ps. length ps.items ≡ length cells.now) }
-    ensures fits { IfOk result (λ ps. AreJoined layout.now cells.now → Each (ParentFits layout.now cells.now ps.items) (length cells.now)) }
+    ensures fits { IfOk result (λ ps. AreJoined layout.now cells.now
+        → Each (ParentFits layout.now cells.now ps.items) (length cells.now)) }
 {
     let size = layout.size() as usize;
     let mut marks = vec![in alloc; false; size]?;
@@ -103,7 +104,8 @@ fn parents_of(alloc: Global, layout: &Layout, cells: &[u32]) -> Result<Vec<Paren
 
 // Whether there are cells, and they are ancilla cells and ascend.
 fn cells_fit(layout: &Layout, cells: &[u32]) -> bool
-    ensures value { IsTrue result ↔ ((0 < length cells.now) × Each (CellFits layout.now cells.now) (length cells.now)) }
+    ensures value { IsTrue result ↔ ((0 < length cells.now)
+        × Each (CellFits layout.now cells.now) (length cells.now)) }
     ensures sound { Sound layout.now }
 {
     let _ = layout.size();
@@ -126,7 +128,8 @@ pub fn certify(
     ensures axis { IfOk result (λ p. p.axis ≡ axis) }
     ensures port { IfOk result (λ p. p.port ≡ port) }
     ensures cells { IfOk result (λ p. p.cells ≡ cells) }
-    ensures certified { IfOk result (λ p. Certified (case_of layout.now (is_some port) p) ↔ (Ascending cells × Fit layout.now axis port cells)) }
+    ensures certified { IfOk result (λ p. Certified (case_of layout.now (is_some port) p)
+        ↔ (Ascending cells × Fit layout.now axis port cells)) }
 {
     let list = cells.cells();
     if !cells_fit(layout, list) {

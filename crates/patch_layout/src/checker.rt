@@ -1,8 +1,8 @@
 //! The check of a plan's certificate.
 
-ghost use Rattle.std.specs.Prelude.{◌≡◌, ℕ, ◌+◌, ◌<◌, ◌≤◌, ◌^◌, ◌↔◌, length, slice_get, List, Option, Some, None, IsTrue, MatchOption, IfNone, ◌∷◌, []};
-ghost use Rattle.patch_layout.specs.Grid.{IsAncilla, Adjacent, Sound};
-ghost use Rattle.patch_layout.specs.Certificate.{CellFits, ParentFits, TouchFits, Judged, Each, PortFits, IsRoot, IsChild, NoRootBefore, Patched, LetterPatched, Shaped, side_count, TouchAt, BadFrom, Checked};
+ghost use Rattle.std.specs.Prelude.{◌≡◌, ℕ, ◌+◌, ◌<◌, ◌≤◌, ◌^◌, ◌↔◌, length, slice_get, Option, Some, None, IsTrue, IfNone, ◌∷◌, []};
+ghost use Rattle.patch_layout.specs.Grid.{Sound};
+ghost use Rattle.patch_layout.specs.Certificate.{CellFits, ParentFits, Judged, Each, PortFits, IsChild, NoRootBefore, Patched, LetterPatched, Shaped, side_count, TouchAt, BadFrom, Checked};
 ghost use Rattle.patch_layout.specs.Region.{Fit, sides_of, port_side, wanted_sides};
 ghost use Rattle.patch_layout.specs.Case.{case, case_of};
 
@@ -173,7 +173,8 @@ fn is_shaped(
     parents: &[Parent],
     touches: &[u32],
 ) -> bool
-    ensures { IsTrue result ↔ Shaped layout.now axis.now rotation cells.now parents.now touches.now }
+    ensures { IsTrue result ↔ Shaped layout.now axis.now rotation cells.now parents.now
+        touches.now }
 {
     if cells.is_empty() || parents.len() != cells.len() {
         return false;
@@ -288,7 +289,8 @@ fn first_fault(
     parents: &[Parent],
     touches: &[u32],
 ) -> Option<Fault>
-    ensures first { Checked (case layout.now rotation axis.now port cells.now parents.now touches.now) result }
+    ensures first { Checked
+        (case layout.now rotation axis.now port cells.now parents.now touches.now) result }
     ensures sound { Sound layout.now }
 {
     let _ = layout.size();

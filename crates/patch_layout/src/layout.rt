@@ -1,11 +1,11 @@
 //! Layouts: a grid of cells, of which some are patches, ports or walls.
 
-ghost use Rattle.std.specs.Prelude.{◌≡◌, ℕ, ◌<◌, ◌≤◌, ◌↔◌, length, slice_get, Option, Some, None, List, IsTrue, IfOk, Contains};
+ghost use Rattle.std.specs.Prelude.{◌≡◌, ℕ, ◌<◌, ◌↔◌, length, slice_get, Option, Some, None, IsTrue, IfOk, Contains};
 ghost use Rattle.patch_layout.specs.Kept.{grid_of};
 ghost use Rattle.patch_layout.specs.Region.{OnSide, Ascend};
 ghost use Rattle.patch_layout.specs.Grid.{Sound, IsPatch, IsPort, neighbours, sides, beside, ancilla, tile_of, IsAncilla, Adjacent, HasStore, store_at, lies_level};
 
-use crate::tables::note;
+use crate::tables::{columns_of, note};
 use patch_base::Memory;
 use std::alloc::Global;
 use std::marker::Model;
@@ -67,6 +67,8 @@ pub struct Layout {
     rows: u32,
     columns: u32,
     sites: Vec<Site>,
+    // The column of each cell: to look it up is faster than to divide.
+    column_of: Vec<u32>,
     patches: Vec<Option<u32>>,
     ports: Vec<Option<u32>>,
 }
@@ -79,7 +81,8 @@ impl Model for Layout {
 
     ghost view = { λ s. grid_of s.rows s.columns s.sites.items };
 
-    ghost invariant = { λ s. Kept (grid_of s.rows s.columns s.sites.items) s.patches.items s.ports.items };
+    ghost invariant = { λ s. Kept (grid_of s.rows s.columns s.sites.items) s.column_of.items
+        s.patches.items s.ports.items };
 }
 
 impl Layout {
@@ -88,6 +91,7 @@ impl Layout {
         requires { Sound (grid_of rows columns sites.items) }
         ensures { IfOk result (λ layout. layout ≡ grid_of rows columns sites.items) }
     {
+        let column_of = columns_of(alloc, sites.len() as u32, columns)?;
         let mut patches = vec![in alloc; None; 1024]?;
         let mut ports = vec![in alloc; None; 16]?;
         note(&sites, &mut patches, &mut ports);
@@ -95,6 +99,7 @@ impl Layout {
             rows,
             columns,
             sites,
+            column_of,
             patches,
             ports,
         })
@@ -105,12 +110,14 @@ impl Layout {
         ensures { IfOk result (λ layout. layout ≡ self.now) }
     {
         let sites = Vec::from_slice(alloc, &self.sites)?;
+        let column_of = Vec::from_slice(alloc, &self.column_of)?;
         let patches = Vec::from_slice(alloc, &self.patches)?;
         let ports = Vec::from_slice(alloc, &self.ports)?;
         Ok(Layout {
             rows: self.rows,
             columns: self.columns,
             sites,
+            column_of,
             patches,
             ports,
         })
@@ -165,7 +172,7 @@ impl Layout {
         } else {
             Some(cell - columns)
         };
-        let column = cell % columns;
+        let column = self.column_of[cell as usize];
         let left = if column == 0 { None } else { Some(cell - 1) };
         let right = if column + 1 == columns {
             None

@@ -1,8 +1,8 @@
 //! Lines of a layout text.
 
-ghost use Rattle.std.specs.Prelude.{◌≡◌, ◌<◌, ◌≤◌, ◌^◌, ℕ, Bool, ◌∷◌, [], IsTrue, IsFalse, List, ◌↔◌, IfSome, IfNone, decimal as decimal_text};
+ghost use Rattle.std.specs.Prelude.{◌≡◌, ◌<◌, ◌^◌, ℕ, Bool, ◌∷◌, [], IsTrue, IsFalse, List, ◌↔◌, IfSome, IfNone, decimal as decimal_text};
 ghost use Rattle.patch_base.specs.Texts.{words};
-ghost use Rattle.patch_layout.specs.LayoutText.{side_word, words_of, Spells, InRange, Header, cell_of, site_of};
+ghost use Rattle.patch_layout.specs.LayoutText.{side_word, Spells, Header, cell_of, site_of};
 ghost use Rattle.patch_layout.specs.Reading.{PatchAfter, PortAfter, WallAfter};
 ghost use Rattle.patch_layout.specs.declared.line.Line.{Line};
 
@@ -64,7 +64,8 @@ impl Line {
 // Takes a decimal off the words.
 fn number(words: &mut Words) -> Option<u32>
     ensures value { IfSome result (λ v. (v < 2 ^ 32) × (words.old ≡ decimal_text v ∷ words.new)) }
-    ensures other { IfNone result ((v : ℕ) (rest : List (List ℕ)) → v < 2 ^ 32 → words.old ≡ decimal_text v ∷ rest → ⊥) }
+    ensures other { IfNone result ((v : ℕ) (rest : List (List ℕ)) → v < 2 ^ 32
+        → words.old ≡ decimal_text v ∷ rest → ⊥) }
 {
     let word = words.next_word()?;
     decimal(word)
@@ -73,7 +74,8 @@ fn number(words: &mut Words) -> Option<u32>
 // Takes the name of a side off the words: `h` where the X sides lie left and right, `v` where they lie above and below.
 fn side(words: &mut Words) -> Option<bool>
     ensures value { IfSome result (λ level. words.old ≡ side_word level ∷ words.new) }
-    ensures other { IfNone result ((level : Bool) (rest : List (List ℕ)) → words.old ≡ side_word level ∷ rest → ⊥) }
+    ensures other { IfNone result ((level : Bool) (rest : List (List ℕ))
+        → words.old ≡ side_word level ∷ rest → ⊥) }
 {
     let word = words.next_word()?;
     match word {

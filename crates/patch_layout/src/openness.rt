@@ -31,7 +31,8 @@ fn is_served(layout: &Layout, used: bool, qubit: u32) -> bool
 // The least used qubit without a patch.
 fn patch_missing(layout: &Layout, used: &[bool], qubits: u32) -> Option<u32>
     requires { length used.now ≡ qubits }
-    ensures { MatchOption result (HasPatches layout.now used.now) (Least (Lacks layout.now used.now)) }
+    ensures { MatchOption result (HasPatches layout.now used.now)
+        (Least (Lacks layout.now used.now)) }
 {
     for qubit in 0..qubits {
         if !is_served(layout, used[qubit as usize], qubit) {
@@ -43,7 +44,8 @@ fn patch_missing(layout: &Layout, used: &[bool], qubits: u32) -> Option<u32>
 
 // The least ancilla cell.
 fn first_cell(layout: &Layout) -> Option<u32>
-    ensures { MatchOption result ((c : ℕ) → IsAncilla layout.now c → ⊥) (Least (IsAncilla layout.now)) }
+    ensures { MatchOption result ((c : ℕ) → IsAncilla layout.now c
+        → ⊥) (Least (IsAncilla layout.now)) }
 {
     for cell in 0..layout.size() {
         if layout.is_ancilla(cell) {
@@ -69,7 +71,8 @@ fn ancilla_marks(alloc: Global, layout: &Layout) -> Result<Vec<bool>, Memory>
 fn unseen_cell(free: &[bool], seen: &[bool]) -> Option<u32>
     requires sizes { length free.now ≡ length seen.now }
     requires few { length free.now ≤ 4096 }
-    ensures { MatchOption result ((c : ℕ) → Marked free.now c → Marked seen.now c) (Least (λ c. Marked free.now c × (Marked seen.now c → ⊥))) }
+    ensures { MatchOption result ((c : ℕ) → Marked free.now c
+        → Marked seen.now c) (Least (λ c. Marked free.now c × (Marked seen.now c → ⊥))) }
 {
     for cell in 0..free.len() {
         if free[cell] && !seen[cell] {
@@ -92,7 +95,8 @@ fn cut_off(
     requires seen { length seen.old ≡ length layout.now.sites }
     requires marks { (c : ℕ) → Marked free.now c ↔ IsAncilla layout.now c }
     requires sound { Sound layout.now }
-    ensures { IfOk result (λ found. MatchOption found ((c : ℕ) → IsAncilla layout.now c → Joins layout.now (IsAncilla layout.now) first c) (Least (CutFrom layout.now first))) }
+    ensures { IfOk result (λ found. MatchOption found ((c : ℕ) → IsAncilla layout.now c
+        → Joins layout.now (IsAncilla layout.now) first c) (Least (CutFrom layout.now first))) }
 {
     let start = [first];
     spread(layout, free, &start, seen, queue)?;
@@ -123,7 +127,8 @@ fn is_open(layout: &Layout, side: Side) -> bool
 
 // The first edge of a qubit's patch, X before Z, that has no ancilla cell.
 fn shut_edge(layout: &Layout, qubit: u32) -> Option<Edge>
-    ensures { MatchOption result ((e : Edge) → HasSide layout.now qubit e) (FirstShut layout.now qubit) }
+    ensures { MatchOption result ((e : Edge) → HasSide layout.now qubit e)
+        (FirstShut layout.now qubit) }
 {
     let x_side = Side::Patch {
         qubit,
@@ -144,7 +149,8 @@ fn shut_edge(layout: &Layout, qubit: u32) -> Option<Edge>
 
 // The first edge of a used qubit's patch, X before Z, that has no ancilla cell.
 fn shut_if(layout: &Layout, used: bool, qubit: u32) -> Option<Edge>
-    ensures { MatchOption result (IsTrue used → (e : Edge) → HasSide layout.now qubit e) (λ e. IsTrue used × FirstShut layout.now qubit e) }
+    ensures { MatchOption result (IsTrue used → (e : Edge)
+        → HasSide layout.now qubit e) (λ e. IsTrue used × FirstShut layout.now qubit e) }
 {
     if used { shut_edge(layout, qubit) } else { None }
 }
@@ -152,7 +158,8 @@ fn shut_if(layout: &Layout, used: bool, qubit: u32) -> Option<Edge>
 // The least used qubit whose patch has an edge without ancilla cells, and its first such edge.
 fn shut(layout: &Layout, used: &[bool], qubits: u32) -> Option<(u32, Edge)>
     requires { length used.now ≡ qubits }
-    ensures { MatchOption result (SidesOpen layout.now used.now) (λ s. IsShut layout.now used.now s.0 s.1) }
+    ensures { MatchOption result (SidesOpen layout.now used.now)
+        (λ s. IsShut layout.now used.now s.0 s.1) }
 {
     for qubit in 0..qubits {
         if let Some(edge) = shut_if(layout, used[qubit as usize], qubit) {
@@ -188,7 +195,8 @@ fn has_port(layout: &Layout) -> bool
 // Whether a factory has a port, and no ancilla cell lies on its Z sides.
 fn port_shut(layout: &Layout, factory: u32) -> bool
     ensures shut { IsTrue result → PortShut layout.now factory }
-    ensures open { IsFalse result → (c : ℕ) → IsPort layout.now factory c → (d : ℕ) × OnPort layout.now factory d }
+    ensures open { IsFalse result → (c : ℕ) → IsPort layout.now factory c → (d : ℕ)
+        × OnPort layout.now factory d }
 {
     match layout.port(factory) {
         Some(_) => !is_open(layout, Side::Port { factory }),

@@ -1,6 +1,6 @@
 //! Reading layout texts.
 
-ghost use Rattle.std.specs.Prelude.{◌≡◌, ◌≢◌, ◌⊎◌, ℕ, ◌*◌, ◌<◌, ◌≤◌, ◌↔◌, [], ◌∷◌, List, length, drop, slice_get, slice_set, true, Some, None, IfOk, IfErr, IfSome, IfNone, MatchOption, MatchResult, IsTrue, IsFalse, Contains};
+ghost use Rattle.std.specs.Prelude.{◌≡◌, ◌≢◌, ◌⊎◌, ℕ, ◌*◌, ◌<◌, ◌≤◌, ◌↔◌, [], ◌∷◌, length, drop, slice_get, slice_set, true, Some, None, IfOk, IfErr, IfSome, IfNone, MatchOption, MatchResult, IsTrue, IsFalse, Contains};
 ghost use Rattle.patch_base.specs.Texts.{lines};
 ghost use Rattle.patch_layout.specs.declared.line.Line.{Line};
 ghost use Rattle.patch_layout.specs.declared.layout.Site.TheVariants as site;
@@ -41,14 +41,20 @@ impl Layout {
         requires { length need.now.used ≡ need.now.qubits }
         ensures stands { IfOk result (StandsFor text.now) }
         ensures sound { IfOk result Sound }
-        ensures open { IfOk result (λ layout. Open layout (wanted need.now.used need.now.rotations)) }
-        ensures refused { IfErr result (Refused text.now (wanted need.now.used need.now.rotations)) }
+        ensures open { IfOk result (λ layout.
+            Open layout (wanted need.now.used need.now.rotations)) }
+        ensures refused { IfErr result (Refused text.now
+            (wanted need.now.used need.now.rotations)) }
 
         // A text that stands for an open grid is refused only where memory is out.
-        ensures exact { (g : Grid) → StandsFor text.now g → Open g (wanted need.now.used need.now.rotations) → MatchResult result (λ layout. layout ≡ g) (λ f. f ≡ fault.Memory) }
+        ensures exact { (g : Grid) → StandsFor text.now g
+            → Open g (wanted need.now.used need.now.rotations)
+            → MatchResult result (λ layout. layout ≡ g) (λ f. f ≡ fault.Memory) }
 
         // A text with a cause to be refused is refused for it, or where memory is out.
-        ensures told { (f : LayoutFault) → f ≢ fault.Memory → Refused text.now (wanted need.now.used need.now.rotations) f → MatchResult result (λ _. ⊥) (λ e. (e ≡ f) ⊎ (e ≡ fault.Memory)) }
+        ensures told { (f : LayoutFault) → f ≢ fault.Memory
+            → Refused text.now (wanted need.now.used need.now.rotations) f
+            → MatchResult result (λ _. ⊥) (λ e. (e ≡ f) ⊎ (e ≡ fault.Memory)) }
     {
         read_open(alloc, text, need)
     }
@@ -93,8 +99,10 @@ fn take_key(line: Line, qubits: &mut [bool], factories: &mut [bool]) -> bool
     requires factories { length factories.old ≡ 16 }
     ensures fresh { IsTrue result → HasKey qubits.old factories.old line → ⊥ }
     ensures marked { IsFalse result → HasKey qubits.old factories.old line }
-    ensures had { (other : Line) → HasKey qubits.new factories.new other → HasKey qubits.old factories.old other ⊎ Doubles line other }
-    ensures has { (other : Line) → HasKey qubits.old factories.old other ⊎ Doubles line other → HasKey qubits.new factories.new other }
+    ensures had { (other : Line) → HasKey qubits.new factories.new other
+        → HasKey qubits.old factories.old other ⊎ Doubles line other }
+    ensures has { (other : Line) → HasKey qubits.old factories.old other ⊎ Doubles line other
+        → HasKey qubits.new factories.new other }
 {
     match line {
         Line::Patch { qubit, .. } => mark(qubits, qubit),
@@ -111,8 +119,10 @@ fn take_line(
     factories: &mut [bool],
 ) -> Result<bool, Memory>
     requires { Keyed found.old.items qubits.old factories.old }
-    ensures takes { IfOk result (λ taken. IsTrue taken → Takes found.old.items text.now found.new.items) }
-    ensures keyed { IfOk result (λ taken. IsTrue taken → Keyed found.new.items qubits.new factories.new) }
+    ensures takes { IfOk result (λ taken. IsTrue taken
+        → Takes found.old.items text.now found.new.items) }
+    ensures keyed { IfOk result (λ taken. IsTrue taken
+        → Keyed found.new.items qubits.new factories.new) }
     ensures breaks { IfOk result (λ taken. IsFalse taken → Breaks found.old.items text.now) }
 {
     if is_skipped(text) {
@@ -130,7 +140,9 @@ fn take_line(
 
 // The text line that begins at a place, without its line feed, and the place after it.
 fn line_at(text: &[u8], at: usize) -> Option<(&[u8], usize)>
-    ensures { MatchOption result (lines (drop at text.now) ≡ []) (λ p. (at < p.1) × (p.1 ≤ length text.now) × (lines (drop at text.now) ≡ p.0.now ∷ lines (drop p.1 text.now))) }
+    ensures { MatchOption result (lines (drop at text.now) ≡ []) (λ p. (at < p.1)
+        × (p.1 ≤ length text.now)
+        × (lines (drop at text.now) ≡ p.0.now ∷ lines (drop p.1 text.now))) }
 {
     let line = next_line(text, at)?;
     Some((&text[line.start..line.end], line.next))
@@ -223,7 +235,8 @@ fn are_within(lines: &[Line], cells: u32) -> bool
 // The lesser of two cells, of which the first may be wanting.
 fn least_of(found: Option<u32>, cell: u32) -> u32
     ensures none { IfNone found (result ≡ cell) }
-    ensures some { IfSome found (λ c. (result ≤ c) × (result ≤ cell) × ((result ≡ c) ⊎ (result ≡ cell))) }
+    ensures some { IfSome found (λ c. (result ≤ c) × (result ≤ cell)
+        × ((result ≡ c) ⊎ (result ≡ cell))) }
 {
     match found {
         Some(other) if other < cell => other,

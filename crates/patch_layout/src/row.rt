@@ -21,7 +21,8 @@ impl Layout {
         requires { length need.now.used ≡ need.now.qubits }
         ensures row { IfOk result (λ layout. layout ≡ row_grid (min need.now.qubits 64)) }
         ensures sound { IfOk result Sound }
-        ensures open { IfOk result (λ layout. Open layout (wanted need.now.used need.now.rotations)) }
+        ensures open { IfOk result (λ layout.
+            Open layout (wanted need.now.used need.now.rotations)) }
         ensures refused { IfErr result (RowRefused need.now.used) }
     {
         let patches = need.qubits.min(ROW_PATCHES);
@@ -58,7 +59,8 @@ fn row_sites(alloc: Global, patches: u32) -> Result<Vec<Site>, Memory>
 // The least used qubit from a number on.
 fn used_from(used: &[bool], first: u32) -> Option<u32>
     requires { length used.now < 2 ^ 32 }
-    ensures { MatchOption result ((q : ℕ) → first ≤ q → IsUsed used.now q → ⊥) (LeastUsedFrom first used.now) }
+    ensures { MatchOption result ((q : ℕ) → first ≤ q → IsUsed used.now q
+        → ⊥) (LeastUsedFrom first used.now) }
 {
     for qubit in first..used.len() as u32 {
         if used[qubit as usize] {
@@ -82,7 +84,9 @@ pub fn whole_region(alloc: Global, layout: &Layout) -> Result<CellList, Memory>
 // Appends the cell where it is an ancilla cell.
 fn push_ancilla(layout: &Layout, cell: u32, cells: &mut Vec<u32>) -> Result<(), Memory>
     requires { cell < length layout.now.sites }
-    ensures { IfOk result (λ _. cells.new.items ++ ancilla_from (cell + 1) (drop (cell + 1) layout.now.sites) ≡ cells.old.items ++ ancilla_from cell (drop cell layout.now.sites)) }
+    ensures { IfOk result (λ _. cells.new.items
+        ++ ancilla_from (cell + 1) (drop (cell + 1) layout.now.sites) ≡ cells.old.items
+        ++ ancilla_from cell (drop cell layout.now.sites)) }
 {
     if layout.is_ancilla(cell) {
         cells.push(cell)?;

@@ -1,10 +1,11 @@
 //! The sides that an axis asks for, and the cells that touch them.
 
-ghost use Rattle.std.specs.Prelude.{◌≡◌, ℕ, ◌+◌, ◌<◌, ◌≤◌, ◌++◌, length, slice_get, List, Option, Some, None, IfOk, drop};
+ghost use Rattle.std.specs.Prelude.{◌≡◌, ◌≤◌, ◌++◌, length, Option, Some, None, IfOk};
 ghost use Rattle.patch_layout.specs.Region.{sides_of, wanted_sides, Touches};
-ghost use Rattle.patch_layout.specs.Tree.{Touching, TouchEach};
+ghost use Rattle.patch_layout.specs.Case.{Ascending};
+ghost use Rattle.patch_layout.specs.Tree.{Placing, Touching, TouchEach};
 
-use crate::layout::{Edge, Layout, Side, is_on};
+use crate::layout::{Edge, Layout, Side};
 use patch_base::Memory;
 use pauli_product::{Letter, Product};
 use std::alloc::Global;
@@ -51,23 +52,38 @@ pub fn wanted(alloc: Global, axis: &Product, port: Option<u32>) -> Result<Vec<Si
     Ok(sides)
 }
 
-// The place of the first cell on the side.
+// The place of the cell in the region, where there is such a cell and it is there.
+fn place_of(cells: &[u32], cell: Option<u32>) -> Option<u32>
+    requires few { length cells.now ≤ 4096 }
+    requires ascending { Ascending cells.now }
+    ensures { Placing cells.now cell result }
+{
+    let Some(cell) = cell else {
+        return None;
+    };
+    match cells.binary_search(&cell) {
+        Ok(place) => Some(place as u32),
+        Err(_) => None,
+    }
+}
+
+// The place of a cell on the side.
 fn touch(layout: &Layout, cells: &[u32], side: Side) -> Option<u32>
-    requires { length cells.now ≤ 4096 }
+    requires few { length cells.now ≤ 4096 }
+    requires ascending { Ascending cells.now }
     ensures { Touching layout.now cells.now side result }
 {
     let pair = layout.side(side);
-    for (index, cell) in cells.iter().enumerate() {
-        if is_on(pair, *cell) {
-            return Some(index as u32);
-        }
+    match place_of(cells, pair[0]) {
+        Some(place) => Some(place),
+        None => place_of(cells, pair[1]),
     }
-    None
 }
 
 // The place of a cell on the side, where there is one, and else 0.
 fn touch_or_first(layout: &Layout, cells: &[u32], side: Side) -> u32
-    requires { length cells.now ≤ 4096 }
+    requires few { length cells.now ≤ 4096 }
+    requires ascending { Ascending cells.now }
     ensures { Touches layout.now cells.now side → Touching layout.now cells.now side (Some result) }
 {
     match touch(layout, cells, side) {
@@ -83,9 +99,11 @@ pub fn touches_of(
     cells: &[u32],
     sides: &[Side],
 ) -> Result<Vec<u32>, Memory>
-    requires { length cells.now ≤ 4096 }
+    requires few { length cells.now ≤ 4096 }
+    requires ascending { Ascending cells.now }
     ensures sizes { IfOk result (λ touches. length touches.items ≡ length sides.now) }
-    ensures fits { IfOk result (λ touches. TouchEach layout.now cells.now sides.now touches.items (length sides.now)) }
+    ensures fits { IfOk result (λ touches. TouchEach layout.now cells.now sides.now touches.items
+        (length sides.now)) }
 {
     let mut touches = Vec::new(alloc);
     for side in sides {

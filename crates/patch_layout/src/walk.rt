@@ -1,8 +1,8 @@
 //! Walks through free cells, breadth first.
 
-ghost use Rattle.std.specs.Prelude.{◌≡◌, ℕ, ◌+◌, ◌*◌, ◌<◌, ◌≤◌, ◌^◌, ◌↔◌, ◌++◌, ◌∷◌, [], length, map, true, slice_get, slice_set, Some, List, IfOk, IsTrue, IsFalse, All, AllPairs, ◌≢◌, Contains, vec_len, if◌then◌else◌};
+ghost use Rattle.std.specs.Prelude.{◌≡◌, ℕ, ◌+◌, ◌<◌, ◌≤◌, ◌++◌, ◌∷◌, [], length, map, true, slice_set, Some, IfOk, All, AllPairs, ◌≢◌, Contains, if◌then◌else◌};
 ghost use Rattle.patch_layout.specs.Grid.{neighbours, Sound};
-ghost use Rattle.patch_layout.specs.Spread.{Marked, is_new, unseen, starting, Ended};
+ghost use Rattle.patch_layout.specs.Spread.{Marked, is_new, starting, Ended};
 
 use crate::layout::Layout;
 use patch_base::Memory;
@@ -24,8 +24,12 @@ fn reach(
 ) -> Result<(), Memory>
     requires free { next.cell < length free.now }
     requires seen { next.cell < length seen.old }
-    ensures queue { IfOk result (λ _. queue.new.items ≡ (if is_new free.now seen.old next.cell then queue.old.items ++ next ∷ [] else queue.old.items)) }
-    ensures seen { IfOk result (λ _. seen.new ≡ (if is_new free.now seen.old next.cell then slice_set seen.old next.cell true else seen.old)) }
+    ensures queue { IfOk result (λ _. queue.new.items
+        ≡ (if is_new free.now seen.old next.cell then queue.old.items
+        ++ next ∷ [] else queue.old.items)) }
+    ensures seen { IfOk result (λ _. seen.new
+        ≡ (if is_new free.now seen.old next.cell then slice_set seen.old next.cell true else
+        seen.old)) }
 {
     let cell = next.cell as usize;
     if free[cell] && !seen[cell] {

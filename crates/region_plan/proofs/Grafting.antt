@@ -8,18 +8,21 @@ use Rattle.patch_layout.specs.declared.layout.Side.{Side}
 use Rattle.patch_layout.specs.declared.layout.Site.TheVariants as site
 use Rattle.patch_layout.specs.Grid.{Grid, Adjacent, Leads}
 use Rattle.patch_layout.specs.Region.{OnSide}
-use Rattle.patch_layout.specs.Spread.{InQueue, Spread, NoneBelow, OneAt}
+use Rattle.patch_layout.specs.Spread.{InQueue, NoneBelow, OneAt}
 use Rattle.patch_layout.specs.Joined.{Joining}
 use Rattle.patch_layout.proofs.Places.{same_entry, get_cases, get_added, get_from_Contains, Contains_from_get, get_map, get_mapped}
-use Rattle.patch_layout.proofs.Walking.{least_from, none_from}
 use Rattle.patch_layout.proofs.Laws.{law_neighbours}
 use Rattle.patch_layout.proofs.Fits.{leads_on}
 use Rattle.region_plan.specs.Free.{Free}
-use Rattle.region_plan.specs.Walk.{FreeOnes, Sought, MetAt}
+use Rattle.region_plan.specs.Walk.{FreeOnes, Sought, MetAt, Meets, Reaches}
+use Rattle.region_plan.specs.Kept.{KeptFrom, HasWalk, Suits}
+use Rattle.region_plan.specs.Follow.{Found, Leading, Follows}
+use Rattle.region_plan.specs.declared.kept.Walk.{Walk}
 use Rattle.region_plan.specs.declared.walk.Met.{Met}
-use Rattle.region_plan.specs.Tree.{cells_in, Rooted, Grafted, Pushed}
+use Rattle.region_plan.specs.Tree.{Growth, cells_in, Rooted, Grafted, Pushed}
 use Rattle.region_plan.proofs.Least.{leads_to}
 use Rattle.region_plan.proofs.Rooting.{cells_more, rooted_more}
+use Rattle.region_plan.proofs.Reaching.{reaches_of, reaches_before, least_reached, none_reached}
 
 -- a walk may be taken backwards: from its last cell to where it began, in as many steps
 pub turned : (g : Grid) (P S T : ℕ → Type 0) → ((x : ℕ) → P x → x < length g.sites) → (cs : List ℕ) (a : ℕ) → P a → T a → Leads g P S a cs
@@ -87,18 +90,18 @@ grafting_start g held tree queue met at' is (r, x, is', x-is, cell) =
     }
 
 -- the entries of the walk have free cells
-entry_free : (g : Grid) (held pair : List (Option ℕ)) (starts : List ℕ) (queue : List Reached) (head : ℕ) (seen : List Bool) → FreeOnes g held pair starts → Spread g (Free g held) starts queue head seen
+entry_free : (g : Grid) (held pair : List (Option ℕ)) (starts : List ℕ) (queue : List Reached) (head : ℕ) → FreeOnes g held pair starts → Reaches g (Free g held) starts queue head
     → (k : ℕ) (r : Reached) → slice_get queue k ≡ Some r → Free g held r.cell
-entry_free g held pair starts queue head seen ones s k r is = elim (s.came k r is) [
+entry_free g held pair starts queue head ones s k r is = elim (s.came k r is) [
   | inl start ↦ (ones.0 r.cell start.2).0
   | inr f ↦ f.free
 ]
 
 -- the entry that comes before is not in the region yet
-pub grafting_new : (g : Grid) (held : List (Option ℕ)) (starts : List ℕ) (tree queue : List Reached) (head : ℕ) (seen : List Bool) (now : List Reached) (at' y : Reached) (place : ℕ)
-    → Spread g (Free g held) starts queue head seen → NoneBelow (InQueue tree) queue head → Grafting g held tree queue head now at' place
+pub grafting_new : (g : Grid) (held : List (Option ℕ)) (starts : List ℕ) (tree queue : List Reached) (head : ℕ) (now : List Reached) (at' y : Reached) (place : ℕ)
+    → Reaches g (Free g held) starts queue head → NoneBelow (InQueue tree) queue head → Grafting g held tree queue head now at' place
     → slice_get queue at'.from ≡ Some y → 0 < at'.steps → InQueue now y.cell → ⊥
-grafting_new g held starts tree queue head seen now at' y place s none t is more (k, r, at-k, cell) =
+grafting_new g held starts tree queue head now at' y place s none t is more (k, r, at-k, cell) =
     elim (s.came t.index at' t.is) [
       | inl start ↦ omega (arith, start.0)
       | inr f ↦
@@ -111,18 +114,18 @@ grafting_new g held starts tree queue head seen now at' y place s none t is more
           ]
     ]
 
-pub grafting_within : (g : Grid) (held : List (Option ℕ)) (starts : List ℕ) (tree queue : List Reached) (head : ℕ) (seen : List Bool) (now : List Reached) (at' : Reached) (place : ℕ)
-    → Spread g (Free g held) starts queue head seen → Grafting g held tree queue head now at' place → at'.from < length queue
-grafting_within g held starts tree queue head seen now at' place s t =
+pub grafting_within : (g : Grid) (held : List (Option ℕ)) (starts : List ℕ) (tree queue : List Reached) (head : ℕ) (now : List Reached) (at' : Reached) (place : ℕ)
+    → Reaches g (Free g held) starts queue head → Grafting g held tree queue head now at' place → at'.from < length queue
+grafting_within g held starts tree queue head now at' place s t =
     let w : t.index < length queue = slice_get_within queue t.index at' t.is in
     elim (s.came t.index at' t.is) [ inl start ↦ omega (arith, start.1) | inr f ↦ omega (arith, f.earlier) ]
 
 -- one more cell is joined
-pub grafting_more : (g : Grid) (held pair : List (Option ℕ)) (starts : List ℕ) (tree queue : List Reached) (head : ℕ) (seen : List Bool) (now after : List Reached) (at' y : Reached) (place next : ℕ)
-    → FreeOnes g held pair starts → Spread g (Free g held) starts queue head seen → Grafting g held tree queue head now at' place
+pub grafting_more : (g : Grid) (held pair : List (Option ℕ)) (starts : List ℕ) (tree queue : List Reached) (head : ℕ) (now after : List Reached) (at' y : Reached) (place next : ℕ)
+    → FreeOnes g held pair starts → Reaches g (Free g held) starts queue head → Grafting g held tree queue head now at' place
     → slice_get queue at'.from ≡ Some y → 0 < at'.steps → Pushed now y.cell place next after
     → Grafting g held tree queue head after y next × (y.steps < at'.steps)
-grafting_more g held pair starts tree queue head seen now after at' y place next ones s t is more (base, base-is, next-is, after-is) =
+grafting_more g held pair starts tree queue head now after at' y place next ones s t is more (base, base-is, next-is, after-is) =
     elim (s.came t.index at' t.is) [
       | inl start ↦ absurd (omega (arith, start.0))
       | inr f ↦
@@ -131,7 +134,7 @@ grafting_more g held pair starts tree queue head seen now after at' y place next
           let adj : Adjacent g y.cell at'.cell = subst A y-is f.adjacent in
           let S : Reached → Type 0 = λ x. at'.steps ≡ x.steps + 1 in
           let steps : at'.steps ≡ y.steps + 1 = subst S y-is f.steps in
-          let free : Free g held y.cell = entry_free g held pair starts queue head seen ones s at'.from y is in
+          let free : Free g held y.cell = entry_free g held pair starts queue head ones s at'.from y is in
           let back : Adjacent g at'.cell y.cell = law_neighbours g y.cell at'.cell (free_within g held y.cell free) adj in
           let base-here : base ≡ t.here = same_entry now place base t.here base-is t.here-is in
           let B : Reached → Type 0 = λ x. x.cell ≡ at'.cell in
@@ -168,11 +171,11 @@ grafting_more g held pair starts tree queue head seen now after at' y place next
     ]
 
 -- at the side the region was joined by the least number of cells
-pub grafted : (g : Grid) (held pair : List (Option ℕ)) (side : Side) (starts : List ℕ) (tree queue : List Reached) (head : ℕ) (seen : List Bool) (now : List Reached) (at' : Reached) (place : ℕ)
-    → FreeOnes g held pair starts → Spread g (Free g held) starts queue head seen → NoneBelow (InQueue tree) queue head → OneAt (InQueue tree) queue head
+pub grafted : (g : Grid) (held pair : List (Option ℕ)) (side : Side) (starts : List ℕ) (tree queue : List Reached) (head : ℕ) (now : List Reached) (at' : Reached) (place : ℕ)
+    → FreeOnes g held pair starts → Reaches g (Free g held) starts queue head → NoneBelow (InQueue tree) queue head → OneAt (InQueue tree) queue head
     → ((c : ℕ) → Contains pair (Some c) ↔ OnSide g side c) → All (Free g held) (cells_in tree)
     → Grafting g held tree queue head now at' place → at'.steps ≡ 0 → Grafted g (Free g held) (OnSide g side) tree now (Some place)
-grafted g held pair side starts tree queue head seen now at' place ones s none (r, r-is, inside) on free t zero-steps =
+grafted g held pair side starts tree queue head now at' place ones s none (r, r-is, inside) on free t zero-steps =
     let on-side : OnSide g side at'.cell = elim (s.came t.index at' t.is) [
       | inl start ↦ (on at'.cell).0 (ones.0 at'.cell start.2).1
       | inr f ↦ absurd (omega (arith, f.steps))
@@ -190,85 +193,105 @@ grafted g held pair side starts tree queue head seen now at' place ones s none (
         (t.end.cell, has, leads),
         λ others j.
             let (es, len, back) = joining_back g held pair side tree starts others ones on free j in
-            let l : t.end.steps ≤ length es = least_from g (Free g held) (InQueue tree) starts queue head seen t.end s t.end-is none es back in
+            let l : t.end.steps ≤ length es = least_reached g (Free g held) (InQueue tree) starts queue head t.end s t.end-is none es back in
             omega (arith, length-map t.added (λ r. r.cell), t.steps),
       ),
       (t.here, t.here-is, subst E (sym t.here-cell) on-side),
     )
 
--- no walk came to the region
-pub grafted_not : (g : Grid) (held pair : List (Option ℕ)) (side : Side) (tree queue : List Reached) (seen : List Bool) → Sought g held pair tree queue seen None
-    → ((c : ℕ) → Contains pair (Some c) ↔ OnSide g side c) → All (Free g held) (cells_in tree) → Grafted g (Free g held) (OnSide g side) tree tree None
-grafted_not g held pair side tree queue seen (starts, ones, (s, none)) on free = (
-  refl,
-  λ others j.
-      let (es, len, back) = joining_back g held pair side tree starts others ones on free j in
-      none_from g (Free g held) (InQueue tree) starts queue seen s none es back,
-)
+-- the way back from the entry where the walk met the region
+abbrev pub Back : Grid → List (Option ℕ) → Side → List Reached → List Reached → List Reached → Reached → ℕ → Type 0
+Back g held side tree queue now at' place = (head : ℕ) × Found g held side tree queue head × Grafting g held tree queue head now at' place
 
-pub sought_met : (g : Grid) (held pair : List (Option ℕ)) (tree queue : List Reached) (seen : List Bool) (found : Option Met) (met : Met) → found ≡ Some met → Sought g held pair tree queue seen found
-    → Sought g held pair tree queue seen (Some met)
-sought_met g held pair tree queue seen found met e w = let P : Option Met → Type 0 = λ o. Sought g held pair tree queue seen o in subst P e w
+pub back_start : (g : Grid) (held : List (Option ℕ)) (side : Side) (region : Growth) (queue : List Reached) (met : Met) (at' : Reached) → Leading g held side region queue (Some met) → slice_get queue met.head ≡ Some at'
+    → Back g held side region.tree queue region.tree at' met.place
+back_start g held side region queue met at' (f, meets, free, size) is = (met.head, f, grafting_start g held region.tree queue met at' is meets)
 
--- the walk from the side that came to the region at this entry
-pub record Found (g : Grid) (held : List (Option ℕ)) (side : Side) (tree queue : List Reached) (seen : List Bool) (head : ℕ) : Type 0 where
-  pub pair : List (Option ℕ)
-  pub on : (c : ℕ) → Contains pair (Some c) ↔ OnSide g side c
-  pub starts : List ℕ
-  pub ones : FreeOnes g held pair starts
-  pub spread : Spread g (Free g held) starts queue head seen
-  pub none : NoneBelow (InQueue tree) queue head
-  pub one : OneAt (InQueue tree) queue head
+pub back_within : (g : Grid) (held : List (Option ℕ)) (side : Side) (tree queue : List Reached) (now : List Reached) (at' : Reached) (place : ℕ)
+    → Back g held side tree queue now at' place → (at'.from < length queue) × (place < length now)
+back_within g held side tree queue now at' place (head, f, t) =
+    (grafting_within g held f.starts tree queue head now at' place f.reaches t, slice_get_within now place t.here t.here-is)
 
--- and the way back from there
-abbrev pub Back : Grid → List (Option ℕ) → Side → List Reached → List Reached → List Bool → List Reached → Reached → ℕ → Type 0
-Back g held side tree queue seen now at' place = (head : ℕ) × Found g held side tree queue seen head × Grafting g held tree queue head now at' place
+pub back_new : (g : Grid) (held : List (Option ℕ)) (side : Side) (tree queue : List Reached) (now : List Reached) (at' y : Reached) (place : ℕ)
+    → Back g held side tree queue now at' place → slice_get queue at'.from ≡ Some y → 0 < at'.steps → (InQueue now y.cell → ⊥) × (y.cell < length g.sites)
+back_new g held side tree queue now at' y place (head, f, t) is more =
+    (grafting_new g held f.starts tree queue head now at' y place f.reaches f.none t is more, f.reaches.within at'.from y is)
 
-pub back_start : (g : Grid) (held pair : List (Option ℕ)) (side : Side) (tree queue : List Reached) (seen : List Bool) (found : Option Met) (met : Met) (at' : Reached)
-    → ((c : ℕ) → Contains pair (Some c) ↔ OnSide g side c) → found ≡ Some met → Sought g held pair tree queue seen found → slice_get queue met.head ≡ Some at'
-    → Back g held side tree queue seen tree at' met.place
-back_start g held pair side tree queue seen found met at' on e sought is =
-    let (starts, ones, (spread, one, none), meets) = sought_met g held pair tree queue seen found met e sought in (
-      met.head,
-      record { pair = pair; on = on; starts = starts; ones = ones; spread = spread; none = none; one = one },
-      grafting_start g held tree queue met at' is meets,
-    )
-
-pub back_within : (g : Grid) (held : List (Option ℕ)) (side : Side) (tree queue : List Reached) (seen : List Bool) (now : List Reached) (at' : Reached) (place : ℕ)
-    → Back g held side tree queue seen now at' place → (at'.from < length queue) × (place < length now)
-back_within g held side tree queue seen now at' place (head, f, t) =
-    (grafting_within g held f.starts tree queue head seen now at' place f.spread t, slice_get_within now place t.here t.here-is)
-
-pub back_new : (g : Grid) (held : List (Option ℕ)) (side : Side) (tree queue : List Reached) (seen : List Bool) (now : List Reached) (at' y : Reached) (place : ℕ)
-    → Back g held side tree queue seen now at' place → slice_get queue at'.from ≡ Some y → 0 < at'.steps → (InQueue now y.cell → ⊥) × (y.cell < length g.sites)
-back_new g held side tree queue seen now at' y place (head, f, t) is more =
-    (grafting_new g held f.starts tree queue head seen now at' y place f.spread f.none t is more, f.spread.within at'.from y is)
-
-pub back_more : (g : Grid) (held : List (Option ℕ)) (side : Side) (tree queue : List Reached) (seen : List Bool) (now after : List Reached) (at' y : Reached) (place next : ℕ)
-    → Back g held side tree queue seen now at' place → slice_get queue at'.from ≡ Some y → 0 < at'.steps → Pushed now y.cell place next after
-    → Back g held side tree queue seen after y next × (y.steps < at'.steps)
-back_more g held side tree queue seen now after at' y place next (head, f, t) is more pushed =
-    let (t', less) = grafting_more g held f.pair f.starts tree queue head seen now after at' y place next f.ones f.spread t is more pushed in
+pub back_more : (g : Grid) (held : List (Option ℕ)) (side : Side) (tree queue : List Reached) (now after : List Reached) (at' y : Reached) (place next : ℕ)
+    → Back g held side tree queue now at' place → slice_get queue at'.from ≡ Some y → 0 < at'.steps → Pushed now y.cell place next after
+    → Back g held side tree queue after y next × (y.steps < at'.steps)
+back_more g held side tree queue now after at' y place next (head, f, t) is more pushed =
+    let (t', less) = grafting_more g held f.pair f.starts tree queue head now after at' y place next f.ones f.reaches t is more pushed in
     ((head, f, t'), less)
 
-pub back_done : (g : Grid) (held : List (Option ℕ)) (side : Side) (tree queue : List Reached) (seen : List Bool) (now : List Reached) (at' : Reached) (place : ℕ)
-    → Back g held side tree queue seen now at' place → at'.steps ≡ 0 → All (Free g held) (cells_in tree) → Grafted g (Free g held) (OnSide g side) tree now (Some place)
-back_done g held side tree queue seen now at' place (head, f, t) zero-steps free =
-    grafted g held f.pair side f.starts tree queue head seen now at' place f.ones f.spread f.none f.one f.on free t zero-steps
+pub back_done : (g : Grid) (held : List (Option ℕ)) (side : Side) (tree queue : List Reached) (now : List Reached) (at' : Reached) (place : ℕ)
+    → Back g held side tree queue now at' place → at'.steps ≡ 0 → All (Free g held) (cells_in tree) → Follows g held side tree now (Some place)
+back_done g held side tree queue now at' place (head, f, t) zero-steps free =
+    (grafted g held f.pair side f.starts tree queue head now at' place f.ones f.reaches f.none f.one f.on free t zero-steps, t.rooted)
 
-pub back_rooted : (g : Grid) (held : List (Option ℕ)) (side : Side) (tree queue : List Reached) (seen : List Bool) (now : List Reached) (at' : Reached) (place : ℕ)
-    → Back g held side tree queue seen now at' place → (first : ℕ) → Rooted g (Free g held) first tree → Rooted g (Free g held) first now
-back_rooted g held side tree queue seen now at' place (head, f, t) = t.rooted
+-- the entry where the walk met the region is in the queue
+pub head_within : (g : Grid) (held : List (Option ℕ)) (side : Side) (region : Growth) (queue : List Reached) (met : Met) → Leading g held side region queue (Some met) → met.head < length queue
+head_within g held side region queue met (f, (r, x, is, x-is, cell), free, size) = slice_get_within queue met.head r is
 
--- the walk that came to its end
-pub grafted_none : (g : Grid) (held pair : List (Option ℕ)) (side : Side) (tree queue : List Reached) (seen : List Bool) (found : Option Met) → found ≡ None → Sought g held pair tree queue seen found
-    → ((c : ℕ) → Contains pair (Some c) ↔ OnSide g side c) → All (Free g held) (cells_in tree) → Grafted g (Free g held) (OnSide g side) tree tree None
-grafted_none g held pair side tree queue seen found e sought on free =
-    let P : Option Met → Type 0 = λ o. Sought g held pair tree queue seen o in
-    grafted_not g held pair side tree queue seen (subst P e sought) on free
+-- no walk came to the region
+unled : (g : Grid) (held pair : List (Option ℕ)) (side : Side) (tree queue : List Reached) (starts : List ℕ) → FreeOnes g held pair starts → Reaches g (Free g held) starts queue (length queue)
+    → NoneBelow (InQueue tree) queue (length queue) → ((c : ℕ) → Contains pair (Some c) ↔ OnSide g side c) → All (Free g held) (cells_in tree)
+    → (others : List ℕ) → Joining g (Free g held) (OnSide g side) (cells_in tree) others → ⊥
+unled g held pair side tree queue starts ones s none on free others j =
+    let (es, len, back) = joining_back g held pair side tree starts others ones on free j in
+    none_reached g (Free g held) (InQueue tree) starts queue s none es back
 
-pub head_within : (g : Grid) (held pair : List (Option ℕ)) (tree queue : List Reached) (seen : List Bool) (found : Option Met) (met : Met) → found ≡ Some met → Sought g held pair tree queue seen found
-    → met.head < length queue
-head_within g held pair tree queue seen found met e sought =
-    let (starts, ones, walked, (r, x, is, x-is, cell)) = sought_met g held pair tree queue seen found met e sought in
-    slice_get_within queue met.head r is
+-- what a walk that was made for the region found
+pub leading_sought : (g : Grid) (held pair : List (Option ℕ)) (side : Side) (region : Growth) (queue : List Reached) (seen : List Bool) (found : Option Met) → ((c : ℕ) → Contains pair (Some c) ↔ OnSide g side c)
+    → All (Free g held) (cells_in region.tree) → region.size ≡ length g.sites → Sought g held pair region.tree queue seen found → Leading g held side region queue found
+leading_sought g held pair side region queue seen None on free size (starts, ones, (s, none)) =
+    unled g held pair side region.tree queue starts ones (reaches_of g (Free g held) starts queue (length queue) seen s) none on free
+leading_sought g held pair side region queue seen (Some met) on free size (starts, ones, (s, one, none), meets) = (
+  record { pair = pair; on = on; starts = starts; ones = ones; reaches = reaches_of g (Free g held) starts queue met.head seen s; none = none; one = one },
+  meets,
+  free,
+  size,
+)
+
+-- what a kept walk found
+pub leading_kept : (g : Grid) (held pair : List (Option ℕ)) (side : Side) (region : Growth) (queue : List Reached) (found : Option Met) → ((c : ℕ) → Contains pair (Some c) ↔ OnSide g side c)
+    → All (Free g held) (cells_in region.tree) → region.size ≡ length g.sites → KeptFrom g held pair queue → Meets queue region.tree found → Leading g held side region queue found
+leading_kept g held pair side region queue None on free size (starts, ones, s) none = unled g held pair side region.tree queue starts ones s none on free
+leading_kept g held pair side region queue (Some met) on free size (starts, ones, s) (none, (r, x, is, x-is, cell)) = (
+  record {
+    pair = pair;
+    on = on;
+    starts = starts;
+    ones = ones;
+    reaches = reaches_before g (Free g held) starts queue (length queue) met.head s (let w : met.head < length queue = slice_get_within queue met.head r is in omega arith);
+    none = none;
+    one = (r, is, (met.place, x, x-is, cell));
+  },
+  (r, x, is, x-is, cell),
+  free,
+  size,
+)
+
+-- the walk of one of the walks
+pub leading_walk : (g : Grid) (held : List (Option ℕ)) (walks : List Walk) (pair : List (Option ℕ)) (side : Side) (region : Growth) (queue : List Reached) (found : Option Met) → ((c : ℕ) → Contains pair (Some c) ↔ OnSide g side c)
+    → All (Free g held) (cells_in region.tree) → region.size ≡ length g.sites → Suits g held walks → HasWalk walks pair queue → Meets queue region.tree found → Leading g held side region queue found
+leading_walk g held walks pair side region queue found on free size suits (k, w, is, pair-is, queue-is) meets =
+    let P : List (Option ℕ) → Type 0 = λ p. KeptFrom g held p queue in
+    let Q : List Reached → Type 0 = λ q. KeptFrom g held w.pair q in
+    leading_kept g held pair side region queue found on free size (subst P pair-is (subst Q queue-is (suits k w is))) meets
+
+-- nothing leads to the side, and the region stays as it is
+pub follows_none : (g : Grid) (held : List (Option ℕ)) (side : Side) (region : Growth) (queue : List Reached) (found : Option Met) → found ≡ None → Leading g held side region queue found → Follows g held side region.tree region.tree None
+follows_none g held side region queue found e leading =
+    let P : Option Met → Type 0 = λ o. Leading g held side region queue o in
+    ((refl, subst P e leading), λ first rooted. rooted)
+
+pub leading_met : (g : Grid) (held : List (Option ℕ)) (side : Side) (region : Growth) (queue : List Reached) (found : Option Met) (met : Met) → found ≡ Some met → Leading g held side region queue found
+    → Leading g held side region queue (Some met)
+leading_met g held side region queue found met e leading = let P : Option Met → Type 0 = λ o. Leading g held side region queue o in subst P e leading
+
+pub leading_size : (g : Grid) (held : List (Option ℕ)) (side : Side) (region : Growth) (queue : List Reached) (met : Met) → Leading g held side region queue (Some met) → region.size ≡ length g.sites
+leading_size g held side region queue met (f, meets, free, size) = size
+
+pub leading_free : (g : Grid) (held : List (Option ℕ)) (side : Side) (region : Growth) (queue : List Reached) (met : Met) → Leading g held side region queue (Some met) → All (Free g held) (cells_in region.tree)
+leading_free g held side region queue met (f, meets, free, size) = free

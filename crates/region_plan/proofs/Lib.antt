@@ -3,6 +3,8 @@ pub mod Regions
 pub mod Shuffled
 pub mod Places
 pub mod Rooting
+pub mod Reaching
+pub mod Keeping
 pub mod Seeking
 pub mod Grafting
 pub mod OverSides

@@ -6,12 +6,12 @@ use Rattle.std.proofs.Math.ListN.{length-set}
 use Rattle.std.proofs.lemmas.List.Sums.{count_by-le-length}
 use Rattle.patch_layout.specs.declared.walk.Reached.{Reached}
 use Rattle.patch_layout.specs.declared.layout.Site.TheVariants as site
-use Rattle.patch_layout.specs.Grid.{Grid, Sound, Adjacent, neighbours}
+use Rattle.patch_layout.specs.Grid.{Grid, Adjacent, neighbours}
 use Rattle.patch_layout.specs.Spread.{Marked, InQueue, Spread, NoneBelow, OnGoal, unseen}
-use Rattle.patch_layout.proofs.Places.{get_set_cases, same_entry, get_from_Contains, Contains_from_get, get_map, get_mapped, mark_kept, get_set_here, get_cases, get_added, get_kept, count_by-set_true}
+use Rattle.patch_layout.proofs.Places.{get_set_cases, same_entry, get_from_Contains, Contains_from_get, get_map, get_mapped, mark_kept, get_set_here, get_cases, get_added, get_kept, get_below, count_by-set_true}
 use Rattle.patch_layout.proofs.Walking.{spread_push, spread_step}
 use Rattle.region_plan.specs.Free.{Free}
-use Rattle.region_plan.specs.Walk.{Looked, BegunTo, FreeOnes, Sought}
+use Rattle.region_plan.specs.Walk.{Looked, BegunTo, FreeOnes, Sought, WalkGoesOn, Continues, Meets}
 use Rattle.region_plan.specs.declared.walk.Met.{Met}
 use Rattle.region_plan.specs.Tree.{cells_in, PlaceOf}
 
@@ -124,15 +124,6 @@ pub record Seeking (g : Grid) (held pair : List (Option ℕ)) (tree : List Reach
   pub few : length queue + unseen seen ≤ 8192
   pub sizes : length seen ≡ length g.sites
 
--- the inner loop: the first n neighbours of the head were looked at
-pub record AtCell (g : Grid) (held pair : List (Option ℕ)) (tree : List Reached) (queue : List Reached) (head : ℕ) (seen : List Bool)
-    (h : Reached) (items : List (Option ℕ)) (n : ℕ) (total : ℕ) : Type 0 where
-  pub seeking : Seeking g held pair tree queue head seen
-  pub is : slice_get queue head ≡ Some h
-  pub off : InQueue tree h.cell → ⊥
-  pub visited : (i c : ℕ) → i < n → slice_get items i ≡ Some (Some c) → Free g held c → InQueue queue c
-  pub whole : length queue + unseen seen ≡ total
-
 pub seeking_start : (g : Grid) (held pair : List (Option ℕ)) (tree queue : List Reached) (seen : List Bool) → BegunTo g held pair (length pair) queue seen → length pair ≤ 4096 → length g.sites ≤ 4096
     → Seeking g held pair tree queue 0 seen
 seeking_start g held pair tree queue seen b two size =
@@ -175,33 +166,46 @@ seeking_start g held pair tree queue seen b two size =
       sizes = b.sizes;
     }
 
-pub at_cell_start : (g : Grid) (held pair : List (Option ℕ)) (tree queue : List Reached) (head : ℕ) (seen : List Bool) (h : Reached) (items : List (Option ℕ))
-    → Seeking g held pair tree queue head seen → slice_get queue head ≡ Some h → (InQueue tree h.cell → ⊥) → AtCell g held pair tree queue head seen h items 0 (length queue + unseen seen)
-at_cell_start g held pair tree queue head seen h items s is off =
-    record { seeking = s; is = is; off = off; visited = λ i c b. absurd (omega arith); whole = refl }
+-- the loop over the neighbours: the first n of them were looked at, and the walk from any starts goes on
+pub record Around (g : Grid) (held : List (Option ℕ)) (old queue : List Reached) (head : ℕ) (before seen : List Bool) (h : Reached) (items : List (Option ℕ)) (n : ℕ) : Type 0 where
+  pub goes : (starts : List ℕ) → Spread g (Free g held) starts old head before → Spread g (Free g held) starts queue head seen
+  pub starts : List ℕ
+  pub spread : Spread g (Free g held) starts queue head seen
+  pub kept : Continues old queue
+  pub is : slice_get queue head ≡ Some h
+  pub visited : (i c : ℕ) → i < n → slice_get items i ≡ Some (Some c) → Free g held c → InQueue queue c
+  pub whole : length queue + unseen seen ≡ length old + unseen before
+  pub sizes : length seen ≡ length g.sites
 
-pub at_cell_past : (g : Grid) (held pair : List (Option ℕ)) (tree queue : List Reached) (head : ℕ) (seen : List Bool) (h : Reached) (items : List (Option ℕ)) (n total : ℕ)
-    → AtCell g held pair tree queue head seen h items n total → slice_get items n ≡ Some None → AtCell g held pair tree queue head seen h items (n + 1) total
-at_cell_past g held pair tree queue head seen h items n total s e =
+pub around_start : (g : Grid) (held : List (Option ℕ)) (queue : List Reached) (head : ℕ) (seen : List Bool) (h : Reached) (items : List (Option ℕ)) (starts : List ℕ)
+    → Spread g (Free g held) starts queue head seen → slice_get queue head ≡ Some h → length seen ≡ length g.sites → Around g held queue queue head seen seen h items 0
+around_start g held queue head seen h items starts s is sizes =
+    record { goes = λ _ t. t; starts = starts; spread = s; kept = λ k r e. e; is = is; visited = λ i c b. absurd (omega arith); whole = refl; sizes = sizes }
+
+pub around_past : (g : Grid) (held : List (Option ℕ)) (old queue : List Reached) (head : ℕ) (before seen : List Bool) (h : Reached) (items : List (Option ℕ)) (n : ℕ)
+    → Around g held old queue head before seen h items n → slice_get items n ≡ Some None → Around g held old queue head before seen h items (n + 1)
+around_past g held old queue head before seen h items n s e =
     record {
-      seeking = s.seeking;
+      goes = s.goes;
+      starts = s.starts;
+      spread = s.spread;
+      kept = s.kept;
       is = s.is;
-      off = s.off;
       visited = λ i c lt at' free. elim (cases_lt i n) [
         | inl lt' ↦ s.visited i c lt' at' free
         | inr ge ↦ let same : i ≡ n = omega arith in let P : ℕ → Type 0 = λ x. slice_get items x ≡ Some (Some c) in
             let f : slice_get items n ≡ Some (Some c) = subst P same at' in absurd (cc)
       ];
       whole = s.whole;
+      sizes = s.sizes;
     }
 
 -- a neighbour that was looked at
-pub at_cell_more : (g : Grid) (held pair : List (Option ℕ)) (tree queue after : List Reached) (head : ℕ) (seen marks : List Bool) (h next : Reached) (items : List (Option ℕ)) (n total : ℕ)
-    → AtCell g held pair tree queue head seen h items n total → Sound g → items ≡ neighbours g h.cell → slice_get items n ≡ Some (Some next.cell)
+pub around_more : (g : Grid) (held : List (Option ℕ)) (old queue after : List Reached) (head : ℕ) (before seen marks : List Bool) (h next : Reached) (items : List (Option ℕ)) (n : ℕ)
+    → Around g held old queue head before seen h items n → items ≡ neighbours g h.cell → slice_get items n ≡ Some (Some next.cell)
     → next.from ≡ head → next.steps ≡ h.steps + 1 → Looked g held next seen queue marks after
-    → AtCell g held pair tree after head marks h items (n + 1) total
-at_cell_more g held pair tree queue after head seen marks h next items n total s sound items-are e from steps looked =
-    let l = s.seeking in
+    → Around g held old after head before marks h items (n + 1)
+around_more g held old queue after head before seen marks h next items n s items-are e from steps looked =
     let adj : Adjacent g h.cell next.cell = (let P : List (Option ℕ) → Type 0 = λ xs. Contains xs (Some next.cell) in subst P items-are (Contains_from_get items n (Some next.cell) e)) in
     let here = λ (i c : ℕ) (ge : n ≤ i) (lt : i < n + 1) (is : slice_get items i ≡ Some (Some c)).
     let same : i ≡ n = omega arith in
@@ -210,76 +214,87 @@ at_cell_more g held pair tree queue after head seen marks h next items n total s
     let c-is : next.cell ≡ c = grind arith in c-is in
     elim looked [
       | inl (free, unmarked, marks-is, after-is) ↦
-          let P : List Reached → Type 0 = λ q. AtCell g held pair tree q head marks h items (n + 1) total in
-          let Q : List Bool → Type 0 = λ m. AtCell g held pair tree (queue ++ next ∷ []) head m h items (n + 1) total in
+          let P : List Reached → Type 0 = λ q. Around g held old q head before marks h items (n + 1) in
+          let Q : List Bool → Type 0 = λ m. Around g held old (queue ++ next ∷ []) head before m h items (n + 1) in
           let in-seen : next.cell < length seen = slice_get_within seen next.cell false unmarked in
           let un : get_or seen next.cell true ≡ false = get_or_from_slice_get seen next.cell false true unmarked in
           let count = count_by-set_true seen next.cell in-seen un in
-          let inside : head < length queue = slice_get_within queue head h s.is in
           let sum : length (queue ++ next ∷ []) + unseen (slice_set seen next.cell true) ≡ length queue + unseen seen = omega (arith, length-append queue (next ∷ [])) in
+          let push = λ (starts : List ℕ) (t : Spread g (Free g held) starts queue head seen).
+          spread_push g (Free g held) starts queue head seen h next t s.is from steps adj free (slice_get_within g.sites next.cell site.Ancilla free.0) in-seen un in
           subst P (sym after-is) (subst Q (sym marks-is) (record {
-            seeking = record {
-              starts = l.starts;
-              ones = l.ones;
-              spread = spread_push g (Free g held) l.starts queue head seen h next l.spread s.is from steps adj free (slice_get_within g.sites next.cell site.Ancilla free.0) in-seen un;
-              none = λ k r lt at' on. elim (get_cases queue next k r at') [
-                | inl old ↦ l.none k r lt old on
-                | inr new ↦ absurd (omega (arith, new.0))
-              ];
-              low = omega (arith, length-append queue (next ∷ []));
-              few = omega (arith, l.few, sum);
-              sizes = omega (arith, length-set seen next.cell true, l.sizes);
-            };
+            goes = λ starts t. push starts (s.goes starts t);
+            starts = s.starts;
+            spread = push s.starts s.spread;
+            kept = λ k r old-is. get_kept queue (next ∷ []) k r (s.kept k r old-is);
             is = get_kept queue (next ∷ []) head h s.is;
-            off = s.off;
             visited = λ i c lt at' free'. elim (cases_lt i n) [
               | inl lt' ↦ let (k, r, is', cell) = s.visited i c lt' at' free' in (k, r, get_kept queue (next ∷ []) k r is', cell)
               | inr ge ↦ (length queue, next, get_added queue next, here i c ge lt at')
             ];
             whole = omega (arith, s.whole, sum);
+            sizes = omega (arith, length-set seen next.cell true, s.sizes);
           }))
       | inr (marked, marks-is, after-is) ↦
-          let P : List Reached → Type 0 = λ q. AtCell g held pair tree q head marks h items (n + 1) total in
-          let Q : List Bool → Type 0 = λ m. AtCell g held pair tree queue head m h items (n + 1) total in
+          let P : List Reached → Type 0 = λ q. Around g held old q head before marks h items (n + 1) in
+          let Q : List Bool → Type 0 = λ m. Around g held old queue head before m h items (n + 1) in
           subst P (sym after-is) (subst Q (sym marks-is) (record {
-            seeking = l;
+            goes = s.goes;
+            starts = s.starts;
+            spread = s.spread;
+            kept = s.kept;
             is = s.is;
-            off = s.off;
             visited = λ i c lt at' free. elim (cases_lt i n) [
               | inl lt' ↦ s.visited i c lt' at' free
               | inr ge ↦ let c-is : next.cell ≡ c = here i c ge lt at' in
                   let R : ℕ → Type 0 = λ x. Free g held x in
                   let S : ℕ → Type 0 = λ x. Marked seen x in
-                  l.spread.marked c (subst S c-is (marked (subst R (sym c-is) free)))
+                  s.spread.marked c (subst S c-is (marked (subst R (sym c-is) free)))
             ];
             whole = s.whole;
+            sizes = s.sizes;
           }))
     ]
 
 -- all four neighbours were looked at
-pub seeking_next : (g : Grid) (held pair : List (Option ℕ)) (tree queue : List Reached) (head : ℕ) (seen : List Bool) (h : Reached) (items : List (Option ℕ)) (n total : ℕ)
-    → AtCell g held pair tree queue head seen h items n total → 4 ≤ n → items ≡ neighbours g h.cell → Seeking g held pair tree queue (head + 1) seen
-seeking_next g held pair tree queue head seen h items n total s all items-are =
-    let l = s.seeking in
+pub around_done : (g : Grid) (held : List (Option ℕ)) (old queue : List Reached) (head : ℕ) (before seen : List Bool) (h : Reached) (items : List (Option ℕ)) (n : ℕ)
+    → Around g held old queue head before seen h items n → 4 ≤ n → items ≡ neighbours g h.cell → WalkGoesOn g (Free g held) old queue head before seen
+around_done g held old queue head before seen h items n s all items-are starts t =
+    spread_step g (Free g held) starts queue head seen h (s.goes starts t) s.is
+    (λ c adj free. let (i, is) = get_from_Contains (neighbours g h.cell) (Some c) adj in
+    let w : i < 4 = slice_get_within (neighbours g h.cell) i (Some c) is in s.visited i c (omega arith) (rw items-are is) free)
+
+-- the walk goes on from a cell that isn't in the region
+pub seeking_next : (g : Grid) (held pair : List (Option ℕ)) (tree queue after : List Reached) (head : ℕ) (seen marks : List Bool) (h : Reached) → Seeking g held pair tree queue head seen → slice_get queue head ≡ Some h
+    → (InQueue tree h.cell → ⊥) → WalkGoesOn g (Free g held) queue after head seen marks → Continues queue after → length after + unseen marks ≡ length queue + unseen seen → length marks ≡ length seen
+    → Seeking g held pair tree after (head + 1) marks
+seeking_next g held pair tree queue after head seen marks h s is off goes kept whole sizes =
+    let inside : head < length queue = slice_get_within queue head h is in
+    let still : head < length after = slice_get_within after head h (kept head h is) in
     record {
-      starts = l.starts;
-      ones = l.ones;
-      spread = spread_step g (Free g held) l.starts queue head seen h l.spread s.is
-          (λ c adj free. let (i, is) = get_from_Contains (neighbours g h.cell) (Some c) adj in
-          let w : i < 4 = slice_get_within (neighbours g h.cell) i (Some c) is in s.visited i c (omega arith) (rw items-are is) free);
-      none = λ k r lt at' on. elim (cases_lt k head) [
-        | inl lt' ↦ l.none k r lt' at' on
-        | inr ge ↦
-            let same : k ≡ head = omega arith in
-            let P : ℕ → Type 0 = λ x. slice_get queue x ≡ Some r in
-            let f : r ≡ h = same_entry queue head r h (subst P same at') s.is in
-            let Q : Reached → Type 0 = λ y. InQueue tree y.cell in
-            s.off (subst Q f on)
-      ];
-      low = omega (arith, slice_get_within queue head h s.is);
-      few = l.few;
-      sizes = l.sizes;
+      starts = s.starts;
+      ones = s.ones;
+      spread = goes s.starts s.spread;
+      none = λ k r lt at' on.
+          let (x, x-is) = get_below queue k (omega arith) in
+          let f : x ≡ r = same_entry after k x r (kept k x x-is) at' in
+          let I : Reached → Type 0 = λ y. InQueue tree y.cell in
+          elim (cases_lt k head) [
+            | inl lt' ↦ s.none k x lt' x-is (subst I (sym f) on)
+            | inr ge ↦
+                let same : k ≡ head = omega arith in
+                let P : ℕ → Type 0 = λ y. slice_get queue y ≡ Some x in
+                let e : x ≡ h = same_entry queue head x h (subst P same x-is) is in
+                off (subst I e (subst I (sym f) on))
+          ];
+      low = omega arith;
+      few = omega (arith, s.few, whole);
+      sizes = omega (arith, s.sizes, sizes);
     }
+
+-- no entry of a region without cells
+pub in_none : (c : ℕ) → InQueue [] c → ⊥
+in_none c (k, r, is, cell) = cc
 
 -- the walk came to the region
 pub sought_some : (g : Grid) (held pair : List (Option ℕ)) (tree queue : List Reached) (seen : List Bool) (h : Reached) (met : Met)
@@ -297,3 +312,23 @@ sought_none g held pair tree queue head seen s end =
 
 pub pair_item : (pair : List (Option ℕ)) (n : ℕ) (o : Option ℕ) → n < length pair → get_or pair n None ≡ o → slice_get pair n ≡ Some o
 pair_item pair n o in' is = rw (← is) (slice_get-get_or pair n None in')
+
+-- one more entry isn't in the region
+pub none_more : (walk tree : List Reached) (n : ℕ) (d : Reached) → NoneBelow (InQueue tree) walk n → n < length walk → PlaceOf tree (get_or walk n d).cell None → NoneBelow (InQueue tree) walk (n + 1)
+none_more walk tree n d none in' off k x lt is on = elim (cases_lt k n) [
+  | inl less ↦ none k x less is on
+  | inr ge ↦
+      let same : k ≡ n = omega arith in
+      let P : ℕ → Type 0 = λ y. slice_get walk y ≡ Some x in
+      let f : x ≡ get_or walk n d = same_entry walk n x (get_or walk n d) (subst P same is) (slice_get-get_or walk n d in') in
+      let I : Reached → Type 0 = λ y. InQueue tree y.cell in
+      off (subst I f on)
+]
+
+-- the entry is in the region
+pub met_at : (walk tree : List Reached) (n place : ℕ) (d : Reached) → NoneBelow (InQueue tree) walk n → n < length walk → PlaceOf tree (get_or walk n d).cell (Some place) → Meets walk tree (Some (record { head = n; place = place }))
+met_at walk tree n place d none in' (x, is, cell) = (none, (get_or walk n d, x, slice_get-get_or walk n d in', is, cell))
+
+-- none is
+pub none_whole : (walk tree : List Reached) (n : ℕ) → NoneBelow (InQueue tree) walk n → length walk ≤ n → Meets walk tree None
+none_whole walk tree n none all k r lt is on = none k r (omega arith) is on

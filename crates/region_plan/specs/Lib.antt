@@ -3,6 +3,8 @@ pub mod Answer
 pub mod Growing
 pub mod Walk
 pub mod Tree
+pub mod Kept
+pub mod Follow
 pub mod Ways
 pub mod Finish
 pub mod Ports

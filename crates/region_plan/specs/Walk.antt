@@ -1,9 +1,8 @@
 -- A walk from a side back to a region.
-use Rattle.std.specs.Prelude.{◌≡◌, ℕ, Bool, true, false, ◌<◌, ◌≤◌, ◌⊎◌, length, slice_get, slice_set, List, [], ◌∷◌, ◌++◌, Option, Some, None, Contains}
+use Rattle.std.specs.Prelude.{◌≡◌, ℕ, Bool, true, false, ◌+◌, ◌<◌, ◌≤◌, ◌⊎◌, length, slice_get, slice_set, List, [], ◌∷◌, ◌++◌, Option, Some, None, Contains}
 use Rattle.patch_layout.specs.declared.walk.Reached.{Reached}
-use Rattle.patch_layout.specs.Grid.{Grid}
-use Rattle.patch_layout.specs.Spread.{Marked, InQueue, OnGoal}
-use Rattle.patch_layout.specs.Spread.{Walked}
+use Rattle.patch_layout.specs.Grid.{Grid, Adjacent}
+use Rattle.patch_layout.specs.Spread.{Marked, InQueue, OnGoal, Came, NoneBelow, Spread, Walked}
 use Rattle.region_plan.specs.Free.{Free}
 use Rattle.region_plan.specs.declared.walk.Met.{Met}
 
@@ -36,3 +35,26 @@ abbrev pub Sought : Grid → List (Option ℕ) → List (Option ℕ) → List Re
 Sought g held pair tree queue seen None = (starts : List ℕ) × FreeOnes g held pair starts × Walked g (Free g held) starts (InQueue tree) queue seen None
 Sought g held pair tree queue seen (Some met) =
     (starts : List ℕ) × FreeOnes g held pair starts × Walked g (Free g held) starts (InQueue tree) queue seen (Some met.head) × MetAt queue tree met
+
+-- the walk goes on by one entry of the queue, wherever it started
+abbrev pub WalkGoesOn : Grid → (ℕ → Type 0) → List Reached → List Reached → ℕ → List Bool → List Bool → Type 0
+WalkGoesOn g Free queue after head seen marks = (starts : List ℕ) → Spread g Free starts queue head seen → Spread g Free starts after (head + 1) marks
+
+-- each entry stays where it is
+abbrev pub Continues : List Reached → List Reached → Type 0
+Continues queue after = (k : ℕ) (r : Reached) → slice_get queue k ≡ Some r → slice_get after k ≡ Some r
+
+-- the first entry whose cell is in the region, or None where no entry's is
+abbrev pub Meets : List Reached → List Reached → Option Met → Type 0
+Meets queue tree None = NoneBelow (InQueue tree) queue (length queue)
+Meets queue tree (Some met) = NoneBelow (InQueue tree) queue met.head × MetAt queue tree met
+
+-- the entries of a walk, in the order of their steps; up to the head each has all its free neighbours among them
+pub record Reaches (g : Grid) (Free : ℕ → Type 0) (starts : List ℕ) (queue : List Reached) (head : ℕ) : Type 0 where
+  pub came : (k : ℕ) (r : Reached) → slice_get queue k ≡ Some r → Came g Free starts queue k r
+  pub start : (c : ℕ) → Contains starts c → (k : ℕ) × (r : Reached) × (slice_get queue k ≡ Some r) × (r.cell ≡ c) × (r.steps ≡ 0)
+  pub within : (k : ℕ) (r : Reached) → slice_get queue k ≡ Some r → r.cell < length g.sites
+  pub ordered : (i j : ℕ) (a b : Reached) → i ≤ j → slice_get queue i ≡ Some a → slice_get queue j ≡ Some b → a.steps ≤ b.steps
+  pub once : (i j : ℕ) (a b : Reached) → slice_get queue i ≡ Some a → slice_get queue j ≡ Some b → a.cell ≡ b.cell → i ≡ j
+  pub done : (k : ℕ) (r : Reached) → k < head → slice_get queue k ≡ Some r → (c : ℕ) → Adjacent g r.cell c → Free c
+      → (j : ℕ) × (b : Reached) × (slice_get queue j ≡ Some b) × (b.cell ≡ c) × (b.steps ≤ r.steps + 1)

@@ -8,6 +8,7 @@ ghost use Rattle.region_plan.specs.Answer.{Answers, LeastJoined};
 ghost use Rattle.region_plan.specs.Laws.{LeastJoinedIsJoined, RegionsFit};
 
 use crate::free::{is_patch_held, lacks_state};
+use crate::kept::Walks;
 use crate::ways::way;
 use patch_layout::{Layout, Look, Plan};
 use std::alloc::Global;
@@ -29,10 +30,8 @@ pub enum Planned {
     Memory,
 }
 
-/// Plans a region for a look: joined side by side in the order of `touches`, each time by the least number of free cells, from the least cell of the first side that serves, through the least unheld port with a ready state that serves.
-///
-/// A region grows over the sides of the patches once at most from each of the two cells of the first side, by one walk for each side. Each port is then tried by one walk to the region at hand. A walk goes to each cell once at most, so a plan takes time of twice the cells times the sides and ports together. Where the first cell serves through the first port that is offered, one region grows, and one port is tried.
-pub fn plan(alloc: Global, layout: &Layout, look: &Look) -> Planned
+// What `plan` answers, over these walks.
+fn plan_over(alloc: Global, layout: &Layout, look: &Look, walks: &mut Walks) -> Planned
     requires held { length look.now.held ≡ length layout.now.sites }
     requires letter { (q : ℕ) × HasLetter look.now.axis q }
     ensures { Answers (LeastJoined layout.now look.now) layout.now look.now result }
@@ -49,11 +48,22 @@ pub fn plan(alloc: Global, layout: &Layout, look: &Look) -> Planned
     if is_patch_held(layout, look) {
         return Planned::Blocked;
     }
-    match way(alloc, layout, look) {
+    match way(alloc, layout, look, walks) {
         Ok(Some(plan)) => Planned::Region(plan),
         Ok(None) => Planned::Blocked,
         Err(_) => Planned::Memory,
     }
+}
+
+/// Plans a region for a look: joined side by side in the order of `touches`, each time by the least number of free cells, from the least cell of the first side that serves, through the least unheld port with a ready state that serves.
+///
+/// A region grows over the sides of the patches once at most from each of the two cells of the first side, by one walk for each side. Each port is then tried by one walk to the region at hand. A walk goes to each cell once at most, so a plan takes time of twice the cells times the sides and ports together. Where the first cell serves through the first port that is offered, one region grows, and one port is tried.
+pub fn plan(alloc: Global, layout: &Layout, look: &Look) -> Planned
+    requires held { length look.now.held ≡ length layout.now.sites }
+    requires letter { (q : ℕ) × HasLetter look.now.axis q }
+    ensures { Answers (LeastJoined layout.now look.now) layout.now look.now result }
+{
+    plan_over(alloc, layout, look, &mut Walks::new(alloc, false))
 }
 
 /// What plans regions. Its answers are those of `plan`, but for a region of its own kind.
@@ -77,6 +87,29 @@ impl Planner for JoiningPlanner {
 
     fn plan(&mut self, alloc: Global, layout: &Layout, look: &Look) -> Planned {
         plan(alloc, layout, look)
+    }
+}
+
+/// `plan` as a planner that keeps walks from plan to plan: those through all ancilla cells of the layout at hand, from the first 144 sides that it is asked for. They serve where no product holds a cell: a plan then looks at the cells nearest to each side, and walks no more. Each takes 48 KiB at most.
+#[derive(Drop)]
+pub struct KeepingPlanner {
+    walks: Walks,
+}
+
+impl KeepingPlanner {
+    /// A planner that has planned nothing yet.
+    pub fn new(alloc: Global) -> KeepingPlanner {
+        KeepingPlanner {
+            walks: Walks::new(alloc, true),
+        }
+    }
+}
+
+impl Planner for KeepingPlanner {
+    ghost meets = { LeastJoined };
+
+    fn plan(&mut self, alloc: Global, layout: &Layout, look: &Look) -> Planned {
+        plan_over(alloc, layout, look, &mut self.walks)
     }
 }
 

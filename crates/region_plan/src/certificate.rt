@@ -17,7 +17,8 @@ use std::alloc::Global;
 // The cells of the region in ascending order.
 fn in_order(alloc: Global, tree: &[Reached]) -> Result<Vec<u32>, Memory>
     ensures same { IfOk result (λ cells. IsPermutation (cells_in tree.now) cells.items) }
-    ensures ascending { IfOk result (λ cells. AllPairs (λ a b. a ≢ b) cells.items → Ascending cells.items) }
+    ensures ascending { IfOk result (λ cells. AllPairs (λ a b. a ≢ b) cells.items
+        → Ascending cells.items) }
 {
     let mut cells: Vec<u32> = tree.iter().map(|reached| reached.cell).collect(alloc)?;
     cells.sort_unstable();
@@ -49,7 +50,8 @@ fn parents_of(
     requires tree { Tree cells.now tree.now }
     requires places { PlacesIn cells.now places.now }
     ensures sizes { IfOk result (λ parents. length parents.items ≡ length cells.now) }
-    ensures named { IfOk result (λ parents. Named tree.now places.now parents.items (length tree.now)) }
+    ensures named { IfOk result (λ parents. Named tree.now places.now parents.items
+        (length tree.now)) }
 {
     let mut parents = vec![in alloc; Parent { index: 0, depth: 0 }; cells.len()]?;
     for index in 0..tree.len() {
@@ -91,7 +93,8 @@ pub(crate) fn finish(
     port: Option<u32>,
     region: Region,
 ) -> Result<Plan, Memory>
-    requires { (first : ℕ) × Sprung layout.now (Free layout.now look.now.held) (wanted_sides look.now.axis port) first region.tree.tree region.touched.items }
+    requires { (first : ℕ) × Sprung layout.now (Free layout.now look.now.held)
+        (wanted_sides look.now.axis port) first region.tree.tree region.touched.items }
     ensures { IfOk result (Finished layout.now look.now port (cells_in region.tree.tree)) }
 {
     let tree = region.tree.as_slice();

@@ -2,7 +2,7 @@
 
 ghost use Rattle.std.specs.Prelude.{◌≡◌, ℕ, ◌<◌, ◌↔◌, length, slice_get, IsTrue, Some};
 ghost use Rattle.patch_layout.specs.Grid.{IsPatch, IsPort};
-ghost use Rattle.region_plan.specs.Free.{Free, IsUnheld, IsReady, HasState, IsOffered, PatchHeld, HasLetter, IsHeldAt, LacksState};
+ghost use Rattle.region_plan.specs.Free.{Free, IsUnheld, IsReady, HasState, IsOffered, PatchHeld, IsHeldAt, LacksState};
 
 use patch_layout::{Layout, Look};
 use pauli_product::Letter;
@@ -122,7 +122,8 @@ fn is_held_at(layout: &Layout, look: &Look, qubit: u32) -> bool
 
 // Whether the qubit has a patch that a product holds.
 fn is_patched_held(layout: &Layout, held: &[Option<u32>], qubit: u32) -> bool
-    ensures { IsTrue result ↔ ((c : ℕ) × (by : ℕ) × IsPatch layout.now qubit c × (slice_get held.now c ≡ Some (Some by))) }
+    ensures { IsTrue result ↔ ((c : ℕ) × (by : ℕ) × IsPatch layout.now qubit c
+        × (slice_get held.now c ≡ Some (Some by))) }
 {
     match layout.patch(qubit) {
         Some(cell) => is_held(held, cell),

@@ -5,10 +5,13 @@ mod answer;
 mod certificate;
 mod free;
 mod growth;
+mod kept;
 mod marks;
 mod ports;
 mod tree;
 mod walk;
 mod ways;
 
-pub use answer::{JoiningPlanner, Planned, Planner, law_joined, law_region_fits, plan};
+pub use answer::{
+    JoiningPlanner, KeepingPlanner, Planned, Planner, law_joined, law_region_fits, plan,
+};

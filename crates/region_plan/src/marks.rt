@@ -1,6 +1,6 @@
 //! Marks of cells.
 
-ghost use Rattle.std.specs.Prelude.{◌≡◌, ℕ, ◌<◌, ◌≤◌, ◌↔◌, All, false, true, length, replicate, slice_set, IfOk, IsTrue};
+ghost use Rattle.std.specs.Prelude.{◌≡◌, ◌<◌, ◌≤◌, ◌↔◌, All, false, true, length, replicate, slice_set, IfOk, IsTrue};
 ghost use Rattle.patch_layout.specs.Spread.{Marked};
 
 use patch_base::Memory;

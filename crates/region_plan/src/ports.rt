@@ -5,10 +5,12 @@ ghost use Rattle.patch_layout.specs.Region.{wanted_sides};
 ghost use Rattle.region_plan.specs.Free.{Free, IsOffered};
 ghost use Rattle.region_plan.specs.Tree.{cells_in};
 ghost use Rattle.region_plan.specs.Ways.{HasTables};
+ghost use Rattle.region_plan.specs.Kept.{Suits};
 ghost use Rattle.region_plan.specs.Ports.{PortTried, PortJoined, WayAt, BestWay};
 
 use crate::free::{is_offered, ready_of};
 use crate::growth::{Region, join, region_at};
+use crate::kept::Walks;
 use patch_base::Memory;
 use patch_layout::{Layout, Look, Side};
 use std::alloc::Global;
@@ -24,9 +26,11 @@ pub(crate) struct Way {
 fn join_port(
     layout: &Layout,
     look: &Look,
+    walks: &Walks,
     region: &mut Region,
     factory: u32,
 ) -> Result<bool, Memory>
+    requires suits { Suits layout.now look.now.held walks.now }
     requires tables { HasTables layout.now region.old }
     requires free { All (Free layout.now look.now.held) (cells_in region.old.tree.tree) }
     ensures { IfOk result (PortTried layout.now look.now factory region.old region.new) }
@@ -38,6 +42,7 @@ fn join_port(
     match join(
         layout,
         look.held.as_slice(),
+        walks,
         &mut region.tree,
         side,
         &mut region.seen,
@@ -55,15 +60,17 @@ fn join_port(
 fn join_least_port(
     layout: &Layout,
     look: &Look,
+    walks: &Walks,
     region: &mut Region,
     below: u32,
 ) -> Result<Option<u32>, Memory>
+    requires suits { Suits layout.now look.now.held walks.now }
     requires tables { HasTables layout.now region.old }
     requires free { All (Free layout.now look.now.held) (cells_in region.old.tree.tree) }
     ensures { IfOk result (PortJoined layout.now look.now below region.old region.new) }
 {
     for factory in 0..below {
-        if join_port(layout, look, region, factory)? {
+        if join_port(layout, look, walks, region, factory)? {
             return Ok(Some(factory));
         }
     }
@@ -87,20 +94,23 @@ fn way_at(
     alloc: Global,
     layout: &Layout,
     look: &Look,
+    walks: &Walks,
     cell: Option<u32>,
     sides: &[Side],
     below: u32,
 ) -> Result<Option<Way>, Memory>
-    requires { sides.now ≡ wanted_sides look.now.axis None }
+    requires sides { sides.now ≡ wanted_sides look.now.axis None }
+    requires suits { Suits layout.now look.now.held walks.now }
     ensures { IfOk result (WayAt layout.now look.now cell below) }
 {
     if !is_any_offered(layout, look, below) {
         return Ok(None);
     }
-    let Some(mut region) = region_at(alloc, layout, look.held.as_slice(), cell, sides)? else {
+    let Some(mut region) = region_at(alloc, layout, look.held.as_slice(), walks, cell, sides)?
+    else {
         return Ok(None);
     };
-    match join_least_port(layout, look, &mut region, below)? {
+    match join_least_port(layout, look, walks, &mut region, below)? {
         Some(factory) => Ok(Some(Way { region, factory })),
         None => Ok(None),
     }
@@ -111,21 +121,23 @@ pub(crate) fn best_way(
     alloc: Global,
     layout: &Layout,
     look: &Look,
+    walks: &Walks,
     side: Side,
     sides: &[Side],
 ) -> Result<Option<Way>, Memory>
-    requires { sides.now ≡ wanted_sides look.now.axis None }
+    requires sides { sides.now ≡ wanted_sides look.now.axis None }
+    requires suits { Suits layout.now look.now.held walks.now }
     ensures { IfOk result (BestWay layout.now look.now side) }
 {
     let [first, second] = layout.side(side);
     let count = ready_of(look).len() as u32;
-    match way_at(alloc, layout, look, first, sides, count)? {
-        Some(way) => match way_at(alloc, layout, look, second, sides, way.factory)? {
+    match way_at(alloc, layout, look, walks, first, sides, count)? {
+        Some(way) => match way_at(alloc, layout, look, walks, second, sides, way.factory)? {
             Some(lesser) => Ok(Some(lesser)),
             None => Ok(Some(way)),
         },
         None => {
-            let other = way_at(alloc, layout, look, second, sides, count)?;
+            let other = way_at(alloc, layout, look, walks, second, sides, count)?;
             Ok(other)
         }
     }

@@ -32,7 +32,7 @@ pub fn run_big<T: Threads + Sync, O: Sink>(
     requires size { n ≤ 4000 }
     requires routers { AreRouters k }
     ensures out_counts { O.faults out.old ≤ O.faults out.new }
-    ensures ends { let w = writing (O.taken out.old) (O.taken out.new) (O.faults out.old) (O.faults out.new) in
+    ensures ends { let w = writing O.taken O.faults out.old out.new in
         (r : Shelved) → Ends r w (words.big n k) result }
     ensures complete { (r : Shelved) → Accepts r (words.big n k) → IsDone result }
 {

@@ -38,12 +38,12 @@ pub fn run<T: Threads + Sync, S: Shelf, O: Sink>(
     ensures told { (n : List ℕ) → S.tells shelf.new n ≡ S.tells shelf.old n }
     ensures counts { (n : List ℕ) → S.faults shelf.old n ≤ S.faults shelf.new n }
     ensures out_counts { O.faults out.old ≤ O.faults out.new }
-    ensures ends { let r = shelved (S.tells shelf.old) (S.faults shelf.old) (S.faults shelf.new) in
-        let w = writing (O.taken out.old) (O.taken out.new) (O.faults out.old) (O.faults out.new) in
+    ensures ends { let r = shelved S.tells S.faults shelf.old shelf.new in
+        let w = writing O.taken O.faults out.old out.new in
         Ends r w (words.run asked.entry.circuit.now asked.entry.layout.now asked.entry.outcomes.now asked.entry.k) result }
-    ensures complete { let r = shelved (S.tells shelf.old) (S.faults shelf.old) (S.faults shelf.new) in
+    ensures complete { let r = shelved S.tells S.faults shelf.old shelf.new in
         Accepts r (words.run asked.entry.circuit.now asked.entry.layout.now asked.entry.outcomes.now asked.entry.k) → IsDone result }
-    ensures refuses { let r = shelved (S.tells shelf.old) (S.faults shelf.old) (S.faults shelf.new) in
+    ensures refuses { let r = shelved S.tells S.faults shelf.old shelf.new in
         (f : Fault_of) → Refuses r (words.run asked.entry.circuit.now asked.entry.layout.now asked.entry.outcomes.now asked.entry.k) f → EndsBy f result }
 {
     law_complete_boards();
@@ -65,12 +65,12 @@ pub fn run_bits<T: Threads + Sync, S: Shelf, O: Sink>(
     ensures told { (n : List ℕ) → S.tells shelf.new n ≡ S.tells shelf.old n }
     ensures counts { (n : List ℕ) → S.faults shelf.old n ≤ S.faults shelf.new n }
     ensures out_counts { O.faults out.old ≤ O.faults out.new }
-    ensures ends { let r = shelved (S.tells shelf.old) (S.faults shelf.old) (S.faults shelf.new) in
-        let w = writing (O.taken out.old) (O.taken out.new) (O.faults out.old) (O.faults out.new) in
+    ensures ends { let r = shelved S.tells S.faults shelf.old shelf.new in
+        let w = writing O.taken O.faults out.old out.new in
         Ends r w (words.bits asked.entry.circuit.now asked.entry.layout.now asked.entry.outcomes.now asked.entry.k) result }
-    ensures complete { let r = shelved (S.tells shelf.old) (S.faults shelf.old) (S.faults shelf.new) in
+    ensures complete { let r = shelved S.tells S.faults shelf.old shelf.new in
         Accepts r (words.bits asked.entry.circuit.now asked.entry.layout.now asked.entry.outcomes.now asked.entry.k) → IsDone result }
-    ensures refuses { let r = shelved (S.tells shelf.old) (S.faults shelf.old) (S.faults shelf.new) in
+    ensures refuses { let r = shelved S.tells S.faults shelf.old shelf.new in
         (f : Fault_of) → Refuses r (words.bits asked.entry.circuit.now asked.entry.layout.now asked.entry.outcomes.now asked.entry.k) f → EndsBy f result }
 {
     let job = read_job(alloc, shelf, asked.circuit, asked.layout, asked.outcomes)?;

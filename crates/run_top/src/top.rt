@@ -31,20 +31,20 @@ pub fn run_main<T: Threads + Sync, S: Shelf, O: Sink, E: Sink>(
 ) -> u8
     // At status 0 the output took what the command writes. For `run` it is the schedule of one legal history of the
     // circuit on the layout, with the outcomes, that the three texts stand for, however the routers' threads interleave.
-    ensures headline { let r = shelved (S.tells shelf.old) (S.faults shelf.old) (S.faults shelf.new) in
-        let w = writing (O.taken out.old) (O.taken out.new) (O.faults out.old) (O.faults out.new) in
+    ensures headline { let r = shelved S.tells S.faults shelf.old shelf.new in
+        let w = writing O.taken O.faults out.old out.new in
         result ≡ 0 → Writes (map string_bytes words.now) r w }
     // Each status has its cause, and its line on `err`.
-    ensures ends { let r = shelved (S.tells shelf.old) (S.faults shelf.old) (S.faults shelf.new) in
-        let w = writing (O.taken out.old) (O.taken out.new) (O.faults out.old) (O.faults out.new) in
-        let e = writing (E.taken err.old) (E.taken err.new) (E.faults err.old) (E.faults err.new) in
+    ensures ends { let r = shelved S.tells S.faults shelf.old shelf.new in
+        let w = writing O.taken O.faults out.old out.new in
+        let e = writing E.taken E.faults err.old err.new in
         RefusesWords (map string_bytes words.now) w e result ⊎ CarriesOut (map string_bytes words.now) r w e result }
     // Words of a command and texts that are told and accepted give status 0, unless the outside fails.
-    ensures complete { let r = shelved (S.tells shelf.old) (S.faults shelf.old) (S.faults shelf.new) in
+    ensures complete { let r = shelved S.tells S.faults shelf.old shelf.new in
         (t : Run) → map string_bytes words.now ≡ run_words t → IsRun t → Accepts r t → IsDoneStatus result }
     // Told texts of which one is refused give the status and the line of its refusal, unless the outside fails.
-    ensures refuses { let r = shelved (S.tells shelf.old) (S.faults shelf.old) (S.faults shelf.new) in
-        let e = writing (E.taken err.old) (E.taken err.new) (E.faults err.old) (E.faults err.new) in
+    ensures refuses { let r = shelved S.tells S.faults shelf.old shelf.new in
+        let e = writing E.taken E.faults err.old err.new in
         (t : Run) (f : Fault_of) → map string_bytes words.now ≡ run_words t → IsRun t → Refuses r t f → AnswersBy e t f result }
 
     // What the shelf tells stays, and no count falls.
@@ -67,7 +67,7 @@ pub fn run_main<T: Threads + Sync, S: Shelf, O: Sink, E: Sink>(
 fn refuse<E: Sink>(err: &mut E) -> u8
     ensures status { result ≡ 2 }
     ensures counts { E.faults err.old ≤ E.faults err.new }
-    ensures said { Said (writing (E.taken err.old) (E.taken err.new) (E.faults err.old) (E.faults err.new)) (codes "words\n") }
+    ensures said { Said (writing E.taken E.faults err.old err.new) (codes "words\n") }
 {
     say_line(err, FaultLine::Words);
     2
@@ -86,15 +86,15 @@ fn carry_out<T: Threads + Sync, S: Shelf, O: Sink>(
     ensures counts { (n : List ℕ) → S.faults shelf.old n ≤ S.faults shelf.new n }
     ensures out_counts { O.faults out.old ≤ O.faults out.new }
     ensures built { IfSome result (λ end. IsBuilt (run_of command.entry)) }
-    ensures ends { let r = shelved (S.tells shelf.old) (S.faults shelf.old) (S.faults shelf.new) in
-        let w = writing (O.taken out.old) (O.taken out.new) (O.faults out.old) (O.faults out.new) in
+    ensures ends { let r = shelved S.tells S.faults shelf.old shelf.new in
+        let w = writing O.taken O.faults out.old out.new in
         IfSome result (Ends r w (run_of command.entry)) }
-    ensures complete { let r = shelved (S.tells shelf.old) (S.faults shelf.old) (S.faults shelf.new) in
+    ensures complete { let r = shelved S.tells S.faults shelf.old shelf.new in
         Accepts r (run_of command.entry) → IfSome result IsDone }
-    ensures refuses { let r = shelved (S.tells shelf.old) (S.faults shelf.old) (S.faults shelf.new) in
+    ensures refuses { let r = shelved S.tells S.faults shelf.old shelf.new in
         (f : Fault_of) → Refuses r (run_of command.entry) f → IfSome result (EndsBy f) }
     ensures other { IfNone result (IsBuilt (run_of command.entry) → ⊥) }
-    ensures silent { IfNone result (Untouched (writing (O.taken out.old) (O.taken out.new) (O.faults out.old) (O.faults out.new))) }
+    ensures silent { IfNone result (Untouched (writing O.taken O.faults out.old out.new)) }
 {
     match command {
         RunCommand::Run {

@@ -65,8 +65,10 @@ impl Said {
     }
 
     fn hear(&mut self, entry: &Entry)
-        ensures signs { Hears (λ p. claimed_sign (claimed_in p entry.now)) self.old.signs.items self.new.signs.items }
-        ensures raws { Hears (λ p. raw_outcome (delivery_in p entry.now)) self.old.raws.items self.new.raws.items }
+        ensures signs { Hears (λ p. claimed_sign (claimed_in p entry.now)) self.old.signs.items
+            self.new.signs.items }
+        ensures raws { Hears (λ p. raw_outcome (delivery_in p entry.now)) self.old.raws.items
+            self.new.raws.items }
     {
         match entry {
             Entry::Claim { product, axis, .. } => note(&mut self.signs, *product, axis.sign()),
@@ -77,8 +79,10 @@ impl Said {
 
     /// What a history says of so many products.
     pub(crate) fn of(alloc: Global, products: usize, history: &Log<Noted>) -> Result<Said, Memory>
-        ensures signs { IfOk result (λ s. Tells products (λ p. claimed_sign (claimed_axis (entries history.now) p)) s.signs.items) }
-        ensures raws { IfOk result (λ s. Tells products (λ p. raw_outcome (delivered (entries history.now) p)) s.raws.items) }
+        ensures signs { IfOk result (λ s. Tells products
+            (λ p. claimed_sign (claimed_axis (entries history.now) p)) s.signs.items) }
+        ensures raws { IfOk result (λ s. Tells products
+            (λ p. raw_outcome (delivered (entries history.now) p)) s.raws.items) }
     {
         let mut said = Said::new(alloc, products)?;
         for noted in history.walk() {
@@ -91,7 +95,8 @@ impl Said {
     fn outcome(&self, p: usize) -> bool
         requires signs { p < length self.now.signs.items }
         requires raws { p < length self.now.raws.items }
-        ensures { slice_get (turned_round self.now.signs.items self.now.raws.items) p ≡ Some result }
+        ensures { slice_get (turned_round self.now.signs.items self.now.raws.items) p
+            ≡ Some result }
     {
         let raw = self.raws[p].unwrap_or(false);
         let sign = self.signs[p].unwrap_or(false);
@@ -103,7 +108,10 @@ impl Said {
         requires signs { length self.now.signs.items ≡ length products.now }
         requires raws { length self.now.raws.items ≡ length products.now }
         ensures count { length bits.new ≡ length bits.old }
-        ensures each { (b : ℕ) → b < length bits.old → slice_index_or bits.new b false ≡ bit_behind (slice_index_or bits.old b false) b (kinds_of products.now) (turned_round self.now.signs.items self.now.raws.items) }
+        ensures each { (b : ℕ) → b < length bits.old
+            → slice_index_or bits.new b false
+            ≡ bit_behind (slice_index_or bits.old b false) b (kinds_of products.now)
+            (turned_round self.now.signs.items self.now.raws.items) }
     {
         for (p, product) in products.iter().enumerate() {
             if let Kind::Measure { bit } = product.kind {

@@ -44,8 +44,10 @@ pub fn write_history<O: Sink>(
     requires circuit { WellFormed circuit.now }
     requires bits { length bits.now ≡ bits_in circuit.now.registers }
     ensures counts { O.faults out.old ≤ O.faults out.new }
-    ensures all { OnOk result (Grew (O.taken out.old) (O.taken out.new) (text_of two history.now circuit.now.registers (bit_in bits.now))) }
-    ensures prefix { OnErr result (AppendsPrefix (O.taken out.old) (O.taken out.new) (text_of two history.now circuit.now.registers (bit_in bits.now))) }
+    ensures all { OnOk result (Grew (O.taken out.old) (O.taken out.new)
+        (text_of two history.now circuit.now.registers (bit_in bits.now))) }
+    ensures prefix { OnErr result (AppendsPrefix (O.taken out.old) (O.taken out.new)
+        (text_of two history.now circuit.now.registers (bit_in bits.now))) }
     ensures failed { OnErr result (Rose (O.faults out.old) (O.faults out.new)) }
 {
     let mut pen = Pen::new();
@@ -65,8 +67,10 @@ pub fn write_bits<O: Sink>(circuit: &Circuit, bits: &[bool], out: &mut O) -> Res
     requires circuit { WellFormed circuit.now }
     requires bits { length bits.now ≡ bits_in circuit.now.registers }
     ensures counts { O.faults out.old ≤ O.faults out.new }
-    ensures all { OnOk result (Grew (O.taken out.old) (O.taken out.new) (bits_text circuit.now.registers (bit_in bits.now))) }
-    ensures prefix { OnErr result (AppendsPrefix (O.taken out.old) (O.taken out.new) (bits_text circuit.now.registers (bit_in bits.now))) }
+    ensures all { OnOk result (Grew (O.taken out.old) (O.taken out.new)
+        (bits_text circuit.now.registers (bit_in bits.now))) }
+    ensures prefix { OnErr result (AppendsPrefix (O.taken out.old) (O.taken out.new)
+        (bits_text circuit.now.registers (bit_in bits.now))) }
     ensures failed { OnErr result (Rose (O.faults out.old) (O.faults out.new)) }
 {
     let mut pen = Pen::new();
@@ -109,7 +113,9 @@ pub fn bits_of(alloc: Global, circuit: &Circuit, board: &Board) -> Result<Vec<bo
     requires circuit { WellFormed circuit.now }
     requires products { board.now.job.products ≡ statics circuit.now.items }
     ensures size { IfOk result (λ bits. length bits.items ≡ bits_in circuit.now.registers) }
-    ensures bits { IfOk result (λ bits. (table : List Given) → RightKinds circuit.now.items table → Complete board.now.job (past board.now) table → bits.items ≡ bits_after circuit.now.registers circuit.now.items table) }
+    ensures bits { IfOk result (λ bits. (table : List Given) → RightKinds circuit.now.items table
+        → Complete board.now.job (past board.now) table
+        → bits.items ≡ bits_after circuit.now.registers circuit.now.items table) }
 {
     law_headline();
     let bits = history_bits(alloc, circuit, board.products(), board.history())?;
@@ -131,8 +137,10 @@ pub fn write_schedule<O: Sink>(
     requires circuit { WellFormed circuit.now }
     requires bits { length bits.now ≡ bits_in circuit.now.registers }
     ensures counts { O.faults out.old ≤ O.faults out.new }
-    ensures all { OnOk result (Grew (O.taken out.old) (O.taken out.new) (text_of two board.now.history circuit.now.registers (bit_in bits.now))) }
-    ensures prefix { OnErr result (AppendsPrefix (O.taken out.old) (O.taken out.new) (text_of two board.now.history circuit.now.registers (bit_in bits.now))) }
+    ensures all { OnOk result (Grew (O.taken out.old) (O.taken out.new)
+        (text_of two board.now.history circuit.now.registers (bit_in bits.now))) }
+    ensures prefix { OnErr result (AppendsPrefix (O.taken out.old) (O.taken out.new)
+        (text_of two board.now.history circuit.now.registers (bit_in bits.now))) }
     ensures failed { OnErr result (Rose (O.faults out.old) (O.faults out.new)) }
 {
     write_history(circuit, board.history(), bits, out)
@@ -147,7 +155,8 @@ pub fn write_schedule<O: Sink>(
 pub fn read_entry(alloc: Global, line: &[u8], version: u32) -> Result<Option<Noted>, Memory>
     requires { (version ≡ 1) ⊎ (version ≡ 2) }
     ensures found { IfOk result (λ f. IfSome f (IsEntryLine (version_of version) line.now)) }
-    ensures exact { IfOk result (λ f. (n : Noted) → IsEntryLine (version_of version) line.now n → f ≡ Some n) }
+    ensures exact { IfOk result (λ f. (n : Noted) → IsEntryLine (version_of version) line.now n
+        → f ≡ Some n) }
 {
     let mut words = Words::of(line);
     let Some(by) = worker(&mut words, version) else {

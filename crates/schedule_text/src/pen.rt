@@ -223,9 +223,11 @@ impl Pen {
     // Bytes of any number.
     fn put_all<O: Sink>(&mut self, bytes: &[u8], out: &mut O) -> Result<(), Failed>
         ensures counts { O.faults out.old ≤ O.faults out.new }
-        ensures ok { OnOk result (Passes (O.taken out.old) (O.taken out.new) self.old self.new bytes.now) }
+        ensures ok { OnOk result (Passes (O.taken out.old)
+            (O.taken out.new) self.old self.new bytes.now) }
         ensures room { OnOk result (length self.new ≤ 8191) }
-        ensures prefix { OnErr result (AppendsPrefix (O.taken out.old) (O.taken out.new) (self.old ++ bytes.now)) }
+        ensures prefix { OnErr result (AppendsPrefix (O.taken out.old) (O.taken out.new)
+            (self.old ++ bytes.now)) }
         ensures failed { OnErr result (Rose (O.faults out.old) (O.faults out.new)) }
     {
         self.make_room(out)?;
@@ -239,9 +241,11 @@ impl Pen {
 
     fn cell<O: Sink>(&mut self, cell: u32, out: &mut O) -> Result<(), Failed>
         ensures counts { O.faults out.old ≤ O.faults out.new }
-        ensures ok { OnOk result (Passes (O.taken out.old) (O.taken out.new) self.old self.new (cell_word cell)) }
+        ensures ok { OnOk result (Passes (O.taken out.old) (O.taken out.new) self.old self.new
+            (cell_word cell)) }
         ensures room { OnOk result (length self.new ≤ 8000) }
-        ensures prefix { OnErr result (AppendsPrefix (O.taken out.old) (O.taken out.new) (self.old ++ cell_word cell)) }
+        ensures prefix { OnErr result (AppendsPrefix (O.taken out.old) (O.taken out.new)
+            (self.old ++ cell_word cell)) }
         ensures failed { OnErr result (Rose (O.faults out.old) (O.faults out.new)) }
     {
         self.make_room(out)?;
@@ -252,9 +256,11 @@ impl Pen {
     fn cells<O: Sink>(&mut self, cells: &[u32], out: &mut O) -> Result<(), Failed>
         requires { length self.old ≤ 8000 }
         ensures counts { O.faults out.old ≤ O.faults out.new }
-        ensures ok { OnOk result (Passes (O.taken out.old) (O.taken out.new) self.old self.new (flat_map cell_word cells.now)) }
+        ensures ok { OnOk result (Passes (O.taken out.old) (O.taken out.new) self.old self.new
+            (flat_map cell_word cells.now)) }
         ensures room { OnOk result (length self.new ≤ 8000) }
-        ensures prefix { OnErr result (AppendsPrefix (O.taken out.old) (O.taken out.new) (self.old ++ flat_map cell_word cells.now)) }
+        ensures prefix { OnErr result (AppendsPrefix (O.taken out.old) (O.taken out.new)
+            (self.old ++ flat_map cell_word cells.now)) }
         ensures failed { OnErr result (Rose (O.faults out.old) (O.faults out.new)) }
     {
         for cell in cells {
@@ -267,9 +273,11 @@ impl Pen {
     fn cells_of<O: Sink>(&mut self, entry: &Entry, out: &mut O) -> Result<(), Failed>
         requires { length self.old ≤ 8000 }
         ensures counts { O.faults out.old ≤ O.faults out.new }
-        ensures ok { OnOk result (Passes (O.taken out.old) (O.taken out.new) self.old self.new (flat_map cell_word (cells_in entry.now))) }
+        ensures ok { OnOk result (Passes (O.taken out.old) (O.taken out.new) self.old self.new
+            (flat_map cell_word (cells_in entry.now))) }
         ensures room { OnOk result (length self.new ≤ 8000) }
-        ensures prefix { OnErr result (AppendsPrefix (O.taken out.old) (O.taken out.new) (self.old ++ flat_map cell_word (cells_in entry.now))) }
+        ensures prefix { OnErr result (AppendsPrefix (O.taken out.old) (O.taken out.new)
+            (self.old ++ flat_map cell_word (cells_in entry.now))) }
         ensures failed { OnErr result (Rose (O.faults out.old) (O.faults out.new)) }
     {
         match entry {
@@ -281,8 +289,10 @@ impl Pen {
     // An entry's line.
     fn entry<O: Sink>(&mut self, noted: &Noted, out: &mut O) -> Result<(), Failed>
         ensures counts { O.faults out.old ≤ O.faults out.new }
-        ensures ok { OnOk result (Passes (O.taken out.old) (O.taken out.new) self.old self.new (entry_text noted.now)) }
-        ensures prefix { OnErr result (AppendsPrefix (O.taken out.old) (O.taken out.new) (self.old ++ entry_text noted.now)) }
+        ensures ok { OnOk result (Passes (O.taken out.old) (O.taken out.new) self.old self.new
+            (entry_text noted.now)) }
+        ensures prefix { OnErr result (AppendsPrefix (O.taken out.old) (O.taken out.new)
+            (self.old ++ entry_text noted.now)) }
         ensures failed { OnErr result (Rose (O.faults out.old) (O.faults out.new)) }
     {
         self.make_room(out)?;
@@ -295,9 +305,11 @@ impl Pen {
 
     fn bit<O: Sink>(&mut self, bit: bool, out: &mut O) -> Result<(), Failed>
         ensures counts { O.faults out.old ≤ O.faults out.new }
-        ensures ok { OnOk result (Passes (O.taken out.old) (O.taken out.new) self.old self.new (digit bit)) }
+        ensures ok { OnOk result (Passes (O.taken out.old) (O.taken out.new) self.old self.new
+            (digit bit)) }
         ensures room { OnOk result (length self.new ≤ 8000) }
-        ensures prefix { OnErr result (AppendsPrefix (O.taken out.old) (O.taken out.new) (self.old ++ digit bit)) }
+        ensures prefix { OnErr result (AppendsPrefix (O.taken out.old) (O.taken out.new)
+            (self.old ++ digit bit)) }
         ensures failed { OnErr result (Rose (O.faults out.old) (O.faults out.new)) }
     {
         self.make_room(out)?;
@@ -316,9 +328,11 @@ impl Pen {
         requires room { length self.old ≤ 8000 }
         requires within { first + size ≤ length bits.now }
         ensures counts { O.faults out.old ≤ O.faults out.new }
-        ensures ok { OnOk result (Passes (O.taken out.old) (O.taken out.new) self.old self.new (digits (bit_in bits.now) first size)) }
+        ensures ok { OnOk result (Passes (O.taken out.old) (O.taken out.new) self.old self.new
+            (digits (bit_in bits.now) first size)) }
         ensures room { OnOk result (length self.new ≤ 8000) }
-        ensures prefix { OnErr result (AppendsPrefix (O.taken out.old) (O.taken out.new) (self.old ++ digits (bit_in bits.now) first size)) }
+        ensures prefix { OnErr result (AppendsPrefix (O.taken out.old) (O.taken out.new)
+            (self.old ++ digits (bit_in bits.now) first size)) }
         ensures failed { OnErr result (Rose (O.faults out.old) (O.faults out.new)) }
     {
         for b in (first..first + size).rev() {
@@ -329,9 +343,11 @@ impl Pen {
 
     fn name<O: Sink>(&mut self, name: &Name, out: &mut O) -> Result<(), Failed>
         ensures counts { O.faults out.old ≤ O.faults out.new }
-        ensures ok { OnOk result (Passes (O.taken out.old) (O.taken out.new) self.old self.new name.now) }
+        ensures ok { OnOk result (Passes (O.taken out.old)
+            (O.taken out.new) self.old self.new name.now) }
         ensures room { OnOk result (length self.new ≤ 8191) }
-        ensures prefix { OnErr result (AppendsPrefix (O.taken out.old) (O.taken out.new) (self.old ++ name.now)) }
+        ensures prefix { OnErr result (AppendsPrefix (O.taken out.old) (O.taken out.new)
+            (self.old ++ name.now)) }
         ensures failed { OnErr result (Rose (O.faults out.old) (O.faults out.new)) }
     {
         self.put_all(name.bytes(), out)
@@ -346,8 +362,10 @@ impl Pen {
     ) -> Result<(), Failed>
         requires { register.now.first + register.now.size ≤ length bits.now }
         ensures counts { O.faults out.old ≤ O.faults out.new }
-        ensures ok { OnOk result (Passes (O.taken out.old) (O.taken out.new) self.old self.new (register_text (bit_in bits.now) register.now)) }
-        ensures prefix { OnErr result (AppendsPrefix (O.taken out.old) (O.taken out.new) (self.old ++ register_text (bit_in bits.now) register.now)) }
+        ensures ok { OnOk result (Passes (O.taken out.old) (O.taken out.new) self.old self.new
+            (register_text (bit_in bits.now) register.now)) }
+        ensures prefix { OnErr result (AppendsPrefix (O.taken out.old) (O.taken out.new)
+            (self.old ++ register_text (bit_in bits.now) register.now)) }
         ensures failed { OnErr result (Rose (O.faults out.old) (O.faults out.new)) }
     {
         self.make_room(out)?;
@@ -368,8 +386,10 @@ impl Pen {
     ) -> Result<(), Failed>
         requires { All (IsWithin (length bits.now)) registers.now }
         ensures counts { O.faults out.old ≤ O.faults out.new }
-        ensures ok { OnOk result (Passes (O.taken out.old) (O.taken out.new) self.old self.new (flat_map (register_text (bit_in bits.now)) registers.now)) }
-        ensures prefix { OnErr result (AppendsPrefix (O.taken out.old) (O.taken out.new) (self.old ++ flat_map (register_text (bit_in bits.now)) registers.now)) }
+        ensures ok { OnOk result (Passes (O.taken out.old) (O.taken out.new) self.old self.new
+            (flat_map (register_text (bit_in bits.now)) registers.now)) }
+        ensures prefix { OnErr result (AppendsPrefix (O.taken out.old) (O.taken out.new)
+            (self.old ++ flat_map (register_text (bit_in bits.now)) registers.now)) }
         ensures failed { OnErr result (Rose (O.faults out.old) (O.faults out.new)) }
     {
         for register in registers {
@@ -385,8 +405,10 @@ impl Pen {
         out: &mut O,
     ) -> Result<(), Failed>
         ensures counts { O.faults out.old ≤ O.faults out.new }
-        ensures ok { OnOk result (Passes (O.taken out.old) (O.taken out.new) self.old self.new (flat_map entry_text history.now)) }
-        ensures prefix { OnErr result (AppendsPrefix (O.taken out.old) (O.taken out.new) (self.old ++ flat_map entry_text history.now)) }
+        ensures ok { OnOk result (Passes (O.taken out.old) (O.taken out.new) self.old self.new
+            (flat_map entry_text history.now)) }
+        ensures prefix { OnErr result (AppendsPrefix (O.taken out.old) (O.taken out.new)
+            (self.old ++ flat_map entry_text history.now)) }
         ensures failed { OnErr result (Rose (O.faults out.old) (O.faults out.new)) }
     {
         for noted in history.walk() {
@@ -405,8 +427,10 @@ impl Pen {
         requires circuit { WellFormed circuit.now }
         requires bits { length bits.now ≡ bits_in circuit.now.registers }
         ensures counts { O.faults out.old ≤ O.faults out.new }
-        ensures ok { OnOk result (Passes (O.taken out.old) (O.taken out.new) self.old self.new (bits_text circuit.now.registers (bit_in bits.now))) }
-        ensures prefix { OnErr result (AppendsPrefix (O.taken out.old) (O.taken out.new) (self.old ++ bits_text circuit.now.registers (bit_in bits.now))) }
+        ensures ok { OnOk result (Passes (O.taken out.old) (O.taken out.new) self.old self.new
+            (bits_text circuit.now.registers (bit_in bits.now))) }
+        ensures prefix { OnErr result (AppendsPrefix (O.taken out.old) (O.taken out.new)
+            (self.old ++ bits_text circuit.now.registers (bit_in bits.now))) }
         ensures failed { OnErr result (Rose (O.faults out.old) (O.faults out.new)) }
     {
         self.registers(circuit.registers.as_slice(), bits, out)

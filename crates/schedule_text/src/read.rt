@@ -24,7 +24,8 @@ fn is_end(words: &mut Words<'_>) -> bool
 
 fn next_number(words: &mut Words<'_>) -> Option<u32>
     ensures found { IfSome result (λ n. IsNumber n × (words.old ≡ decimal n ∷ words.new)) }
-    ensures other { IfNone result ((n : ℕ) (rest : List (List ℕ)) → IsNumber n → words.old ≢ decimal n ∷ rest) }
+    ensures other { IfNone result ((n : ℕ) (rest : List (List ℕ)) → IsNumber n
+        → words.old ≢ decimal n ∷ rest) }
 {
     decimal(words.next_word()?)
 }
@@ -54,7 +55,8 @@ fn last_bit(words: &mut Words<'_>) -> Option<bool>
 
 fn next_optional(words: &mut Words<'_>) -> Option<Option<u32>>
     ensures found { IfSome result (λ o. IfSome o IsNumber × (words.old ≡ optional o ∷ words.new)) }
-    ensures other { IfNone result ((o : Option ℕ) (rest : List (List ℕ)) → IfSome o IsNumber → words.old ≢ optional o ∷ rest) }
+    ensures other { IfNone result ((o : Option ℕ) (rest : List (List ℕ)) → IfSome o IsNumber
+        → words.old ≢ optional o ∷ rest) }
 {
     match words.next_word()? {
         b"-" => Some(None),
@@ -84,8 +86,10 @@ fn given(words: &mut Words<'_>) -> Option<Given>
 }
 
 fn next_axis(alloc: Global, words: &mut Words<'_>) -> Result<Option<Product>, Memory>
-    ensures found { IfOk result (λ f. IfSome f (λ p. IsAxis p × (words.old ≡ product_text p ∷ words.new))) }
-    ensures other { IfOk result (λ f. IfNone f ((p : Signed) (rest : List (List ℕ)) → IsAxis p → words.old ≢ product_text p ∷ rest)) }
+    ensures found { IfOk result (λ f. IfSome f (λ p. IsAxis p
+        × (words.old ≡ product_text p ∷ words.new))) }
+    ensures other { IfOk result (λ f. IfNone f ((p : Signed) (rest : List (List ℕ)) → IsAxis p
+        → words.old ≢ product_text p ∷ rest)) }
 {
     match words.next_word() {
         Some(word) => Product::parse(alloc, word),
@@ -197,7 +201,8 @@ pub(crate) fn entry(
     version: u32,
 ) -> Result<Option<Entry>, Memory>
     ensures found { IfOk result (λ f. IfSome f (IsWorded (version_of version) words.old)) }
-    ensures other { IfOk result (λ f. IfNone f ((e : Entry) → IsWorded (version_of version) words.old e → ⊥)) }
+    ensures other { IfOk result (λ f. IfNone f ((e : Entry)
+        → IsWorded (version_of version) words.old e → ⊥)) }
 {
     let Some(letter) = next_letter(words) else {
         return Ok(None);
@@ -215,7 +220,8 @@ pub(crate) fn entry(
 /// The number of the entry's worker: 0 in version 1, and the first word in version 2.
 pub(crate) fn worker(words: &mut Words<'_>, version: u32) -> Option<u32>
     ensures found { IfSome result (λ by. Starts (version_of version) words.old by words.new) }
-    ensures other { IfNone result ((by : ℕ) (rest : List (List ℕ)) → Starts (version_of version) words.old by rest → ⊥) }
+    ensures other { IfNone result ((by : ℕ) (rest : List (List ℕ))
+        → Starts (version_of version) words.old by rest → ⊥) }
 {
     if version == 1 {
         return Some(0);

@@ -16,7 +16,8 @@ pub(crate) fn held_cells(
     region: &[u32],
     into: &mut Vec<u32>,
 ) -> Result<(), Memory>
-    ensures { OnOk result ((c : ℕ) → is_among into.new.items c ≡ is_claim_cell layout.now axis.now port region.now c) }
+    ensures { OnOk result ((c : ℕ) → is_among into.new.items c
+        ≡ is_claim_cell layout.now axis.now port region.now c) }
 {
     into.clear();
     into.extend_from_slice(region)?;
@@ -32,7 +33,8 @@ pub(crate) fn held_cells(
 }
 
 fn put(cell: Option<u32>, into: &mut Vec<u32>) -> Result<(), Memory>
-    ensures { OnOk result ((c : ℕ) → is_among into.new.items c ≡ (is_among into.old.items c || is_port cell c)) }
+    ensures { OnOk result ((c : ℕ) → is_among into.new.items c
+        ≡ (is_among into.old.items c || is_port cell c)) }
 {
     if let Some(cell) = cell {
         into.push(cell)?;

@@ -66,8 +66,10 @@ impl Drawing {
 
     /// Shows these marks alone.
     pub(crate) fn show(&mut self, marks: &[Mark])
-        requires { (g : Grid) × (shown : ℕ → Option ℕ) × Draws g shown self.old × All (IsNarrow g) marks.now }
-        ensures { (g : Grid) (shown : ℕ → Option ℕ) → Draws g shown self.old → All (IsNarrow g) marks.now → Draws g (mark_at marks.now) self.new }
+        requires { (g : Grid) × (shown : ℕ → Option ℕ) × Draws g shown self.old
+            × All (IsNarrow g) marks.now }
+        ensures { (g : Grid) (shown : ℕ → Option ℕ) → Draws g shown self.old
+            → All (IsNarrow g) marks.now → Draws g (mark_at marks.now) self.new }
     {
         self.bytes.copy_from_slice(&self.blank);
         for mark in marks {
@@ -77,7 +79,8 @@ impl Drawing {
 
     fn put(&mut self, mark: Mark)
         requires { (g : Grid) × (shown : ℕ → Option ℕ) × Draws g shown self.old × IsNarrow g mark }
-        ensures { (g : Grid) (shown : ℕ → Option ℕ) → Draws g shown self.old → IsNarrow g mark → Draws g (with_mark shown mark) self.new }
+        ensures { (g : Grid) (shown : ℕ → Option ℕ) → Draws g shown self.old → IsNarrow g mark
+            → Draws g (with_mark shown mark) self.new }
     {
         let start = self.starts[mark.cell as usize];
         let six = six_columns(mark.product);

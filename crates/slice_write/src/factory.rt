@@ -1,6 +1,6 @@
 //! A factory: its steps, its failing runs and the states that it made.
 
-ghost use Rattle.std.specs.Prelude.{◌≡◌, ◌==◌, ◌+◌, ◌%◌, ◌-◌, ◌<◌, ◌^◌, ℕ, All, length, [], IfOk};
+ghost use Rattle.std.specs.Prelude.{◌≡◌, ◌==◌, ◌+◌, ◌%◌, ◌-◌, ◌<◌, ◌^◌, ℕ, IfOk};
 ghost use Rattle.std.specs.List.{list_any};
 ghost use Rattle.std.specs.List.Sorted.{IsNonDecreasing};
 ghost use Rattle.magic_pool.specs.Recount.{is_listed};
@@ -62,7 +62,8 @@ impl Factory {
 
 fn runs_of(alloc: Global, fails: &[Fail], factory: u32) -> Result<Vec<u32>, Memory>
     ensures sorted { IfOk result (λ runs. IsNonDecreasing runs.items) }
-    ensures listed { IfOk result (λ runs. (run : ℕ) → list_any (λ r. r == run) runs.items ≡ is_listed fails.now factory run) }
+    ensures listed { IfOk result (λ runs. (run : ℕ)
+        → list_any (λ r. r == run) runs.items ≡ is_listed fails.now factory run) }
 {
     let mut runs = Vec::new(alloc);
     for fail in fails {

@@ -3,7 +3,7 @@
 ghost use Rattle.std.specs.Prelude.{◌≡◌, ◌≤◌, IfOk, OnOk};
 ghost use Rattle.patch_base.specs.Outside.{Rose, Grew, AppendsPrefix};
 ghost use Rattle.board_core.specs.History.{entries};
-ghost use Rattle.board_core.specs.Legal.{Job, Legal};
+ghost use Rattle.board_core.specs.Legal.{Legal};
 ghost use Rattle.board_core.specs.Limits.{WithinLimits, AreFactories};
 ghost use Rattle.slice_write.specs.Slices.{sliced, slices_of};
 ghost use Rattle.slice_write.specs.Pictures.{slices_text};
@@ -28,10 +28,15 @@ pub fn slice_history(
     fails: &[Fail],
     history: &Log<Noted>,
 ) -> Result<Vec<u32>, Memory>
-    requires limits { WithinLimits (record { products = products.now; grid = layout.now; fails = fails.now }) }
+    requires limits { WithinLimits
+        (record { products = products.now; grid = layout.now; fails = fails.now }) }
     requires factories { AreFactories layout.now }
-    requires legal { Legal (record { products = products.now; grid = layout.now; fails = fails.now }) (entries history.now) }
-    ensures { IfOk result (λ v. v.items ≡ slices_of (record { products = products.now; grid = layout.now; fails = fails.now }) (entries history.now)) }
+    requires legal { Legal
+        (record { products = products.now; grid = layout.now; fails = fails.now })
+        (entries history.now) }
+    ensures { IfOk result (λ v. v.items ≡ slices_of
+        (record { products = products.now; grid = layout.now; fails = fails.now })
+        (entries history.now)) }
 {
     let mut ledger = Ledger::new(alloc, products, layout, fails)?;
     let mut slices = Vec::with_capacity(alloc, history.length() as usize)?;
@@ -51,13 +56,25 @@ pub fn write_history_slices<O: Sink>(
     slices: &[u32],
     out: &mut O,
 ) -> Result<(), SliceFault>
-    requires limits { WithinLimits (record { products = products.now; grid = layout.now; fails = fails.now }) }
+    requires limits { WithinLimits
+        (record { products = products.now; grid = layout.now; fails = fails.now }) }
     requires factories { AreFactories layout.now }
-    requires legal { Legal (record { products = products.now; grid = layout.now; fails = fails.now }) (entries history.now) }
-    requires slices { slices.now ≡ slices_of (record { products = products.now; grid = layout.now; fails = fails.now }) (entries history.now) }
+    requires legal { Legal
+        (record { products = products.now; grid = layout.now; fails = fails.now })
+        (entries history.now) }
+    requires slices { slices.now
+        ≡ slices_of (record { products = products.now; grid = layout.now; fails = fails.now })
+        (entries history.now) }
     ensures counts { O.faults out.old ≤ O.faults out.new }
-    ensures all { OnOk result (Grew (O.taken out.old) (O.taken out.new) (slices_text layout.now (sliced (record { products = products.now; grid = layout.now; fails = fails.now }) (entries history.now)))) }
-    ensures prefix { result ≡ Err SliceFault.Failed → AppendsPrefix (O.taken out.old) (O.taken out.new) (slices_text layout.now (sliced (record { products = products.now; grid = layout.now; fails = fails.now }) (entries history.now))) }
+    ensures all { OnOk result (Grew (O.taken out.old) (O.taken out.new)
+        (slices_text layout.now
+        (sliced (record { products = products.now; grid = layout.now; fails = fails.now })
+        (entries history.now)))) }
+    ensures prefix { result ≡ Err SliceFault.Failed
+        → AppendsPrefix (O.taken out.old) (O.taken out.new)
+        (slices_text layout.now
+        (sliced (record { products = products.now; grid = layout.now; fails = fails.now })
+        (entries history.now))) }
     ensures failed { result ≡ Err SliceFault.Failed → Rose (O.faults out.old) (O.faults out.new) }
     ensures memory { result ≡ Err SliceFault.Memory → O.taken out.new ≡ O.taken out.old }
 {

@@ -100,9 +100,14 @@ impl Ledger {
     ) -> Result<u32, Memory>
         requires size { length self.old.cells.items ≡ length layout.now.sites }
         requires region { All (λ c. c < length layout.now.sites) region.now }
-        ensures held { IfOk result (λ n. (c : ℕ) → is_among self.new.held.items c ≡ is_claim_cell layout.now axis.now port region.now c) }
-        ensures within { IfOk result (λ n. All (λ c. c < length layout.now.sites) self.new.held.items) }
-        ensures value { IfOk result (λ n. n ≡ max (greatest_in self.old.cells.items self.new.held.items) (made_by self.old.made.items state)) }
+        ensures held { IfOk result (λ n. (c : ℕ)
+            → is_among self.new.held.items c ≡ is_claim_cell layout.now axis.now port region.now
+            c) }
+        ensures within { IfOk result (λ n. All
+            (λ c. c < length layout.now.sites) self.new.held.items) }
+        ensures value { IfOk result (λ n. n ≡ max
+            (greatest_in self.old.cells.items self.new.held.items)
+            (made_by self.old.made.items state)) }
         ensures others { IfOk result (λ n. self.new ≡ record self.old { held = self.new.held }) }
     {
         held_cells(layout, axis, port, region, &mut self.held)?;
@@ -127,8 +132,10 @@ impl Ledger {
         requires placed { PlacedAre products.now self.old.placed.items }
         requires held { All (λ c. c < length self.old.cells.items) self.old.held.items }
         requires state { IfSome state (λ s. s < length self.old.taken.items) }
-        requires few { max floor (greatest_clash products.now self.old.placed.items product) < 2 ^ 32 - 1 }
-        ensures value { IfOk result (λ n. n ≡ 1 + max floor (greatest_clash products.now self.old.placed.items product)) }
+        requires few { max floor (greatest_clash products.now self.old.placed.items product)
+            < 2 ^ 32 - 1 }
+        ensures value { IfOk result (λ n. n ≡ 1 + max floor
+            (greatest_clash products.now self.old.placed.items product)) }
         ensures notes { IfOk result (λ n. NotesClaim self.old self.new n product state) }
     {
         let slice = 1 + latest_clash(products, &self.placed, product, floor);
@@ -145,7 +152,8 @@ impl Ledger {
         requires qubits { (n : ℕ) × ProductsOfLength n products.now }
         requires product { product < length products.now }
         requires placed { PlacedAre products.now self.old.placed.items }
-        ensures value { IfOk result (λ n. n ≡ greatest_clash products.now self.old.placed.items product) }
+        ensures value { IfOk result
+            (λ n. n ≡ greatest_clash products.now self.old.placed.items product) }
         ensures notes { IfOk result (λ n. NotesSettle self.old self.new n product) }
     {
         let slice = latest_clash(products, &self.placed, product, 0);
@@ -155,9 +163,15 @@ impl Ledger {
 
     fn step(&mut self, layout: &Layout, factory: u32) -> Result<u32, Memory>
         requires known { factory < length self.old.factories.items }
-        requires ready { (d : Factory) → IsReady self.old.taken.items (slice_index_or self.old.factories.items factory d) (store_in layout.now.sites factory) }
-        ensures value { IfOk result (λ n. (d : Factory) → n ≡ step_of self.old.taken.items (slice_index_or self.old.factories.items factory d) (store_in layout.now.sites factory)) }
-        ensures notes { IfOk result (λ n. (d : Factory) → NotesStep self.old self.new factory n (slice_index_or self.old.factories.items factory d)) }
+        requires ready { (d : Factory) → IsReady self.old.taken.items
+            (slice_index_or self.old.factories.items factory d)
+            (store_in layout.now.sites factory) }
+        ensures value { IfOk result (λ n. (d : Factory)
+            → n ≡ step_of self.old.taken.items (slice_index_or self.old.factories.items factory d)
+            (store_in layout.now.sites factory)) }
+        ensures notes { IfOk result (λ n. (d : Factory)
+            → NotesStep self.old self.new factory n
+            (slice_index_or self.old.factories.items factory d)) }
     {
         let this = &self.factories[factory as usize];
         let room = if this.begins_a_run() {
@@ -178,7 +192,8 @@ impl Ledger {
 
 fn factories(alloc: Global, fails: &[Fail]) -> Result<Vec<Factory>, Memory>
     ensures count { IfOk result (λ v. length v.items ≡ 16) }
-    ensures fresh { IfOk result (λ v. (f : ℕ) (d : Factory) → f < 16 → IsFresh fails.now f (slice_index_or v.items f d)) }
+    ensures fresh { IfOk result (λ v. (f : ℕ) (d : Factory) → f < 16
+        → IsFresh fails.now f (slice_index_or v.items f d)) }
 {
     let mut factories = Vec::new(alloc);
     for number in 0..FACTORIES {

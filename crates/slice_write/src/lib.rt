@@ -63,8 +63,11 @@ pub fn write_slices<O: Sink>(
 ) -> Result<(), SliceFault>
     requires { slices.now ≡ slices_of board.now.job (past board.now) }
     ensures counts { O.faults out.old ≤ O.faults out.new }
-    ensures all { OnOk result (Grew (O.taken out.old) (O.taken out.new) (slices_text board.now.job.grid (sliced board.now.job (past board.now)))) }
-    ensures prefix { result ≡ Err SliceFault.Failed → AppendsPrefix (O.taken out.old) (O.taken out.new) (slices_text board.now.job.grid (sliced board.now.job (past board.now))) }
+    ensures all { OnOk result (Grew (O.taken out.old) (O.taken out.new)
+        (slices_text board.now.job.grid (sliced board.now.job (past board.now)))) }
+    ensures prefix { result ≡ Err SliceFault.Failed
+        → AppendsPrefix (O.taken out.old) (O.taken out.new)
+        (slices_text board.now.job.grid (sliced board.now.job (past board.now))) }
     ensures failed { result ≡ Err SliceFault.Failed → Rose (O.faults out.old) (O.faults out.new) }
     ensures memory { result ≡ Err SliceFault.Memory → O.taken out.new ≡ O.taken out.old }
 {
@@ -86,8 +89,10 @@ pub fn write_slices<O: Sink>(
 /// `Failed` where the sink failed, which then took a prefix of the picture.
 pub fn write_picture<O: Sink>(layout: &Layout, out: &mut O) -> Result<(), Failed>
     ensures counts { O.faults out.old ≤ O.faults out.new }
-    ensures all { OnOk result (Grew (O.taken out.old) (O.taken out.new) (picture layout.now nobody)) }
-    ensures prefix { OnErr result (AppendsPrefix (O.taken out.old) (O.taken out.new) (picture layout.now nobody)) }
+    ensures all { OnOk result (Grew (O.taken out.old) (O.taken out.new)
+        (picture layout.now nobody)) }
+    ensures prefix { OnErr result (AppendsPrefix (O.taken out.old) (O.taken out.new)
+        (picture layout.now nobody)) }
     ensures failed { OnErr result (Rose (O.faults out.old) (O.faults out.new)) }
 {
     let mut pen = Pen::new();

@@ -48,7 +48,8 @@ pub(crate) fn greatest_at(table: &[u32], cells: &[u32]) -> u32
 /// Writes a slice at these cells.
 pub(crate) fn set_at(table: &mut [u32], cells: &[u32], slice: u32)
     requires { All (λ c. c < length table.old) cells.now }
-    ensures { (c : ℕ) → c < length table.old → slice_index table.new c ≡ (if is_among cells.now c then slice else slice_index table.old c) }
+    ensures { (c : ℕ) → c < length table.old → slice_index table.new c
+        ≡ (if is_among cells.now c then slice else slice_index table.old c) }
 {
     for cell in cells {
         table[*cell as usize] = slice;

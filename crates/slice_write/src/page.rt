@@ -1,6 +1,6 @@
 //! What is written of one slice.
 
-ghost use Rattle.std.specs.Prelude.{◌≡◌, ◌∷◌, ◌++◌, [], ◌<◌, map, OnOk, length};
+ghost use Rattle.std.specs.Prelude.{◌≡◌, ◌∷◌, ◌++◌, [], map, OnOk};
 ghost use Rattle.board_core.specs.History.{History};
 ghost use Rattle.slice_write.specs.Marks.{mark as mark_of, HasRoom, FewFactories};
 
@@ -44,7 +44,8 @@ impl Page {
     ) -> Result<(), Memory>
         requires room { HasRoom layout.now entry.now }
         requires factories { FewFactories layout.now }
-        ensures { OnOk result ((here : History) → PageIs layout.now here self.old → PageIs layout.now (here ++ entry.now ∷ []) self.new) }
+        ensures { OnOk result ((here : History) → PageIs layout.now here self.old
+            → PageIs layout.now (here ++ entry.now ∷ []) self.new) }
     {
         match entry {
             Entry::Claim {

@@ -157,8 +157,10 @@ impl Pen {
     /// Bytes of any number.
     pub(crate) fn put_all<O: Sink>(&mut self, bytes: &[u8], out: &mut O) -> Result<(), Failed>
         ensures counts { O.faults out.old ≤ O.faults out.new }
-        ensures ok { OnOk result (Passes (O.taken out.old) (O.taken out.new) self.old self.new bytes.now) }
-        ensures prefix { OnErr result (AppendsPrefix (O.taken out.old) (O.taken out.new) (self.old ++ bytes.now)) }
+        ensures ok { OnOk result (Passes (O.taken out.old)
+            (O.taken out.new) self.old self.new bytes.now) }
+        ensures prefix { OnErr result (AppendsPrefix (O.taken out.old) (O.taken out.new)
+            (self.old ++ bytes.now)) }
         ensures failed { OnErr result (Rose (O.faults out.old) (O.faults out.new)) }
     {
         self.make_room(out)?;
@@ -173,8 +175,10 @@ impl Pen {
     fn cell<O: Sink>(&mut self, layout: &Layout, cell: u32, out: &mut O) -> Result<(), Failed>
         requires { cell < length layout.now.sites }
         ensures counts { O.faults out.old ≤ O.faults out.new }
-        ensures ok { OnOk result (Passes (O.taken out.old) (O.taken out.new) self.old self.new (piece layout.now nobody cell)) }
-        ensures prefix { OnErr result (AppendsPrefix (O.taken out.old) (O.taken out.new) (self.old ++ piece layout.now nobody cell)) }
+        ensures ok { OnOk result (Passes (O.taken out.old) (O.taken out.new) self.old self.new
+            (piece layout.now nobody cell)) }
+        ensures prefix { OnErr result (AppendsPrefix (O.taken out.old) (O.taken out.new)
+            (self.old ++ piece layout.now nobody cell)) }
         ensures failed { OnErr result (Rose (O.faults out.old) (O.faults out.new)) }
     {
         self.make_room(out)?;
@@ -185,8 +189,10 @@ impl Pen {
     /// The picture without claims.
     pub(crate) fn picture<O: Sink>(&mut self, layout: &Layout, out: &mut O) -> Result<(), Failed>
         ensures counts { O.faults out.old ≤ O.faults out.new }
-        ensures ok { OnOk result (Passes (O.taken out.old) (O.taken out.new) self.old self.new (flat_map (piece layout.now nobody) (upto (length layout.now.sites)))) }
-        ensures prefix { OnErr result (AppendsPrefix (O.taken out.old) (O.taken out.new) (self.old ++ flat_map (piece layout.now nobody) (upto (length layout.now.sites)))) }
+        ensures ok { OnOk result (Passes (O.taken out.old) (O.taken out.new) self.old self.new
+            (flat_map (piece layout.now nobody) (upto (length layout.now.sites)))) }
+        ensures prefix { OnErr result (AppendsPrefix (O.taken out.old) (O.taken out.new)
+            (self.old ++ flat_map (piece layout.now nobody) (upto (length layout.now.sites)))) }
         ensures failed { OnErr result (Rose (O.faults out.old) (O.faults out.new)) }
     {
         for cell in 0..layout.size() {

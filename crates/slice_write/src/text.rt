@@ -42,7 +42,8 @@ pub(crate) fn pages(
     requires within { All (λ n. n ≤ last) slices.now }
     requires room { All (HasRoom layout.now) (entries history.now) }
     requires factories { FewFactories layout.now }
-    ensures { IfOk result (λ v. PagesAre layout.now (paired (entries history.now) slices.now) last v.items) }
+    ensures { IfOk result (λ v. PagesAre layout.now
+        (paired (entries history.now) slices.now) last v.items) }
 {
     let mut pages = blank_pages(alloc, last)?;
     let mut held = Vec::new(alloc);
@@ -103,8 +104,10 @@ fn put_page<O: Sink>(
     requires narrow { All (IsNarrow layout.now) page.now.marks.items }
     ensures counts { O.faults out.old ≤ O.faults out.new }
     ensures drawn { OnOk result (IsDrawn layout.now drawing.new) }
-    ensures ok { OnOk result (Passes (O.taken out.old) (O.taken out.new) pen.old pen.new (page_text layout.now number page.now)) }
-    ensures prefix { OnErr result (AppendsPrefix (O.taken out.old) (O.taken out.new) (pen.old ++ page_text layout.now number page.now)) }
+    ensures ok { OnOk result (Passes (O.taken out.old) (O.taken out.new) pen.old pen.new
+        (page_text layout.now number page.now)) }
+    ensures prefix { OnErr result (AppendsPrefix (O.taken out.old) (O.taken out.new)
+        (pen.old ++ page_text layout.now number page.now)) }
     ensures failed { OnErr result (Rose (O.faults out.old) (O.faults out.new)) }
 {
     pen.make_room(out)?;
@@ -129,8 +132,10 @@ fn put_pages<O: Sink>(
     requires drawn { IsDrawn layout.now drawing.old }
     requires narrow { AreNarrow layout.now pages.now }
     ensures counts { O.faults out.old ≤ O.faults out.new }
-    ensures ok { OnOk result (Passes (O.taken out.old) (O.taken out.new) pen.old pen.new (flat_map (page_at layout.now pages.now) (upto (length pages.now - 1)))) }
-    ensures prefix { OnErr result (AppendsPrefix (O.taken out.old) (O.taken out.new) (pen.old ++ flat_map (page_at layout.now pages.now) (upto (length pages.now - 1)))) }
+    ensures ok { OnOk result (Passes (O.taken out.old) (O.taken out.new) pen.old pen.new
+        (flat_map (page_at layout.now pages.now) (upto (length pages.now - 1)))) }
+    ensures prefix { OnErr result (AppendsPrefix (O.taken out.old) (O.taken out.new)
+        (pen.old ++ flat_map (page_at layout.now pages.now) (upto (length pages.now - 1)))) }
     ensures failed { OnErr result (Rose (O.faults out.old) (O.faults out.new)) }
 {
     for n in 0..pages.len() - 1 {
@@ -151,8 +156,10 @@ pub(crate) fn write_pages<O: Sink>(
     requires drawn { IsDrawn layout.now drawing.old }
     requires narrow { AreNarrow layout.now pages.now }
     ensures counts { O.faults out.old ≤ O.faults out.new }
-    ensures all { OnOk result (Grew (O.taken out.old) (O.taken out.new) (pages_text layout.now last pages.now)) }
-    ensures prefix { OnErr result (AppendsPrefix (O.taken out.old) (O.taken out.new) (pages_text layout.now last pages.now)) }
+    ensures all { OnOk result (Grew (O.taken out.old) (O.taken out.new)
+        (pages_text layout.now last pages.now)) }
+    ensures prefix { OnErr result (AppendsPrefix (O.taken out.old) (O.taken out.new)
+        (pages_text layout.now last pages.now)) }
     ensures failed { OnErr result (Rose (O.faults out.old) (O.faults out.new)) }
 {
     let mut pen = Pen::new();

@@ -1,7 +1,6 @@
 -- What the history of a board that was brought to its end promises.
-use Rattle.std.proofs.Common.{◌≡◌, ℕ, ◌+◌, ◌<◌, ◌≤◌, List, [], ◌∷◌, ◌++◌, length, map, take, slice_get, Option, Some, None, All, refl, ap, sym, ◌∙◌, subst, arith}
+use Rattle.std.proofs.Common.{◌≡◌, ℕ, ◌+◌, ◌≤◌, List, [], ◌∷◌, take, slice_get, Option, Some, None, All, refl, ap, sym, ◌∙◌, subst, arith}
 use Rattle.std.specs.Option.{option_map}
-use Rattle.std.specs.Prelude.{unwrap_or}
 use Rattle.std.proofs.lemmas.List.{take-map}
 use Rattle.std.proofs.lemmas.List.Elements.{All-nil, All-cons}
 use Rattle.std.proofs.lemmas.Option.{none-some, same_Some, slice_get-map}
@@ -9,7 +8,6 @@ use Rattle.pauli_product.specs.Signed.{Signed}
 use Rattle.source_model.specs.declared.Circuit.{Circuit}
 use Rattle.source_model.specs.declared.Given.{Given}
 use Rattle.outcome_table.specs.declared.Outcomes.{Outcomes}
-use Rattle.patch_layout.specs.declared.look.Look.{Look}
 use Rattle.patch_layout.specs.Openness.{Least}
 use Rattle.board_core.specs.declared.Noted.{Noted}
 use Rattle.board_core.specs.declared.Entry.{Entry}
@@ -17,10 +15,9 @@ use Rattle.board_core.specs.declared.Entry.TheVariants.{Claim}
 use Rattle.board_core.specs.History.{History, entries, done_place}
 use Rattle.board_core.specs.Legal.{Job as BoardJob, Complete}
 use Rattle.board_core.specs.Position.{Position, past, note, IsLegal}
-use Rattle.board_core.specs.Shows.{Shows}
 use Rattle.schedule_text.specs.Text.{HasNumber}
 use Rattle.schedule_text.specs.Written.{AllBy}
-use Rattle.finish_run.specs.Next.{Meeting, IsPending, NoneIs, ComesNext}
+use Rattle.finish_run.specs.Next.{Meeting, IsPending, NoneIs}
 use Rattle.finish_run.specs.Finished.{GoesOn, behind, by_zero, own_from, own_or_given}
 use Rattle.history_replay.specs.Replay.{asked}
 use Rattle.job_read.specs.declared.Job.{Job}

@@ -1,15 +1,15 @@
 -- From a schedule's text that was read to how the commands that read one end.
-use Rattle.std.proofs.Common.{◌≡◌, ℕ, ◌+◌, ◌<◌, ◌≤◌, List, length, take, Option, IfSome, IfOk, IfErr, Result, Ok, Err, refl, ap, sym, ◌∙◌, subst}
+use Rattle.std.proofs.Common.{◌≡◌, ℕ, ◌+◌, List, take, Option, IfSome, IfOk, IfErr, Result, Ok, Err, refl, ap, sym, subst}
 use Rattle.source_model.specs.declared.Circuit.{Circuit}
 use Rattle.source_model.specs.declared.Given.{Given}
 use Rattle.source_model.specs.Circuits.{RightKinds}
 use Rattle.board_core.specs.declared.Noted.{Noted}
 use Rattle.board_core.specs.Legal.{Job as BoardJob, Complete}
-use Rattle.board_core.specs.Position.{Position, past, with_history}
+use Rattle.board_core.specs.Position.{Position, past}
 use Rattle.slice_write.specs.Slices.{sliced}
 use Rattle.slice_write.specs.Pictures.{slices_text}
 use Rattle.finish_run.specs.Next.{Meeting}
-use Rattle.history_replay.specs.Replay.{IsTextOf, FirstBad, asked}
+use Rattle.history_replay.specs.Replay.{IsTextOf, FirstBad}
 use Rattle.job_read.specs.declared.Job.{Job}
 use Rattle.job_read.specs.Kept.{IsJob}
 use Rattle.job_read.specs.Starts.{board_job}
@@ -23,7 +23,7 @@ use Rattle.tool_top.specs.declared.fault.Fault.{Fault}
 use Rattle.tool_top.specs.declared.fault.Fault.TheVariants as fault
 use Rattle.tool_top.specs.declared.schedule.Replayed.{Replayed}
 use Rattle.fault_lines.specs.Sinks.{Writing}
-use Rattle.job_read.specs.Shelves.{Shelved, shelved, job_on, OnJob}
+use Rattle.job_read.specs.Shelves.{Shelved, job_on, OnJob}
 use Rattle.tool_top.specs.Schedules.{asked_of, IsShort, slices_shown, migrated}
 use Rattle.tool_top.specs.Carried.{IsBroughtToEnd}
 use Rattle.tool_top.specs.Replayed.{IsReplayed, IsReplayedOn, StopsReading, StopsReplaying}
@@ -38,7 +38,7 @@ use Rattle.tool_top.proofs.Told.{told_stands, told_long}
 abbrev ReadAs : Option (List ℕ) → List ℕ → Type 0
 ReadAs told bytes = IfSome told (λ text. bytes ≡ take (67108864 + 1) text)
 
-pub is_replayed : (tells tells' : List ℕ → Option (List ℕ)) (before mid after : List ℕ → ℕ) (c l o s : List ℕ) (job : Job) (bytes : List ℕ) (x : Replayed) → StandsForJob (reading tells before mid c l o) job → IsJob job → tells' s ≡ tells s → ReadAs (tells' s) bytes → IsReplayedOn job bytes x → IsReplayed (shelved tells before after) c l o s x
+pub is_replayed : (tells tells' : List ℕ → Option (List ℕ)) (before mid after : List ℕ → ℕ) (c l o s : List ℕ) (job : Job) (bytes : List ℕ) (x : Replayed) → StandsForJob (reading tells before mid c l o) job → IsJob job → tells' s ≡ tells s → ReadAs (tells' s) bytes → IsReplayedOn job bytes x → IsReplayed (record { tells = tells; before = before; after = after }) c l o s x
 is_replayed tells tells' before mid after c l o s job bytes x stands kept same read i =
     let told : ReadAs (tells s) bytes = subst (λ (t : Option (List ℕ)). ReadAs t bytes) same read in
     record {
@@ -52,7 +52,7 @@ is_replayed tells tells' before mid after c l o s job bytes x stands kept same r
       complete = i.is_text.complete;
     }
 
-pub stops_replay : (tells tells' : List ℕ → Option (List ℕ)) (before mid after : List ℕ → ℕ) (c l o s : List ℕ) (job : Job) (bytes : List ℕ) (f : Fault) → StandsForJob (reading tells before mid c l o) job → tells' s ≡ tells s → ReadAs (tells' s) bytes → StopsReplaying job bytes f → StopsReading (shelved tells before after) c l o s f
+pub stops_replay : (tells tells' : List ℕ → Option (List ℕ)) (before mid after : List ℕ → ℕ) (c l o s : List ℕ) (job : Job) (bytes : List ℕ) (f : Fault) → StandsForJob (reading tells before mid c l o) job → tells' s ≡ tells s → ReadAs (tells' s) bytes → StopsReplaying job bytes f → StopsReading (record { tells = tells; before = before; after = after }) c l o s f
 stops_replay tells tells' before mid after c l o s job bytes fault.ScheduleTooLong stands same read h =
     let told : ReadAs (tells s) bytes = subst (λ (t : Option (List ℕ)). ReadAs t bytes) same read in
     (job, stands_later tells before mid after c l o job stands, told_long (tells s) 67108864 bytes told h)

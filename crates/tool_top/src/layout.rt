@@ -30,12 +30,12 @@ pub fn show_layout<S: Shelf, O: Sink>(
     ensures told { (n : List ℕ) → S.tells shelf.new n ≡ S.tells shelf.old n }
     ensures counts { (n : List ℕ) → S.faults shelf.old n ≤ S.faults shelf.new n }
     ensures out_counts { O.faults out.old ≤ O.faults out.new }
-    ensures ends { let r = shelved (S.tells shelf.old) (S.faults shelf.old) (S.faults shelf.new) in
-        let w = writing (O.taken out.old) (O.taken out.new) (O.faults out.old) (O.faults out.new) in
+    ensures ends { let r = shelved S.tells S.faults shelf.old shelf.new in
+        let w = writing O.taken O.faults out.old out.new in
         Ends r w (tool.layout circuit.now layout.now) result }
-    ensures complete { let r = shelved (S.tells shelf.old) (S.faults shelf.old) (S.faults shelf.new) in
+    ensures complete { let r = shelved S.tells S.faults shelf.old shelf.new in
         Accepts r (tool.layout circuit.now layout.now) → IsDone result }
-    ensures refuses { let r = shelved (S.tells shelf.old) (S.faults shelf.old) (S.faults shelf.new) in
+    ensures refuses { let r = shelved S.tells S.faults shelf.old shelf.new in
         (f : Fault_of) → Refuses r (tool.layout circuit.now layout.now) f → EndsBy f result }
 {
     let circuit = load_circuit(alloc, shelf, circuit)?;
@@ -49,7 +49,8 @@ pub fn show_layout<S: Shelf, O: Sink>(
 fn write_layout<O: Sink>(layout: &Layout, out: &mut O) -> Result<(), Failed>
     ensures counts { O.faults out.old ≤ O.faults out.new }
     ensures all { OnOk result (Grew (O.taken out.old) (O.taken out.new) (shown layout.now)) }
-    ensures part { OnErr result (AppendsPrefix (O.taken out.old) (O.taken out.new) (shown layout.now)) }
+    ensures part { OnErr result (AppendsPrefix (O.taken out.old) (O.taken out.new)
+        (shown layout.now)) }
     ensures failed { OnErr result (Rose (O.faults out.old) (O.faults out.new)) }
 {
     write_number(out, b"open ", layout.rows())?;

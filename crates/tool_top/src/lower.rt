@@ -27,12 +27,12 @@ pub fn lower<S: Shelf, O: Sink>(
     ensures told { (n : List ℕ) → S.tells shelf.new n ≡ S.tells shelf.old n }
     ensures counts { (n : List ℕ) → S.faults shelf.old n ≤ S.faults shelf.new n }
     ensures out_counts { O.faults out.old ≤ O.faults out.new }
-    ensures ends { let r = shelved (S.tells shelf.old) (S.faults shelf.old) (S.faults shelf.new) in
-        let w = writing (O.taken out.old) (O.taken out.new) (O.faults out.old) (O.faults out.new) in
+    ensures ends { let r = shelved S.tells S.faults shelf.old shelf.new in
+        let w = writing O.taken O.faults out.old out.new in
         Ends r w (tool.lower circuit.now) result }
-    ensures complete { let r = shelved (S.tells shelf.old) (S.faults shelf.old) (S.faults shelf.new) in
+    ensures complete { let r = shelved S.tells S.faults shelf.old shelf.new in
         Accepts r (tool.lower circuit.now) → IsDone result }
-    ensures refuses { let r = shelved (S.tells shelf.old) (S.faults shelf.old) (S.faults shelf.new) in
+    ensures refuses { let r = shelved S.tells S.faults shelf.old shelf.new in
         (f : Fault_of) → Refuses r (tool.lower circuit.now) f → EndsBy f result }
 {
     let circuit = load_circuit(alloc, shelf, circuit)?;

@@ -15,7 +15,8 @@ use tool_words::ToolCommand;
 pub fn say<E: Sink>(err: &mut E, command: ToolCommand<'_>, fault: Fault) -> u8
     ensures status { result ≡ status_of fault }
     ensures counts { E.faults err.old ≤ E.faults err.new }
-    ensures said { Said (writing (E.taken err.old) (E.taken err.new) (E.faults err.old) (E.faults err.new)) (fault_line (tool_of command.entry) fault) }
+    ensures said { Said (writing E.taken E.faults err.old err.new)
+        (fault_line (tool_of command.entry) fault) }
 {
     match fault {
         Fault::Job(fault) => say_job(

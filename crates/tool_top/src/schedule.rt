@@ -43,14 +43,21 @@ pub fn read_schedule<S: Shelf>(
 ) -> Result<Replayed, Fault>
     ensures told { (n : List ℕ) → S.tells shelf.new n ≡ S.tells shelf.old n }
     ensures counts { (n : List ℕ) → S.faults shelf.old n ≤ S.faults shelf.new n }
-    ensures replayed { let r = shelved (S.tells shelf.old) (S.faults shelf.old) (S.faults shelf.new) in
-        IfOk result (IsReplayed r names.entry.circuit.now names.entry.layout.now names.entry.outcomes.now names.entry.schedule.now) }
-    ensures stops { let r = shelved (S.tells shelf.old) (S.faults shelf.old) (S.faults shelf.new) in
-        IfErr result (StopsReading r names.entry.circuit.now names.entry.layout.now names.entry.outcomes.now names.entry.schedule.now) }
-    ensures complete { let r = shelved (S.tells shelf.old) (S.faults shelf.old) (S.faults shelf.new) in
-        AcceptsSchedule r names.entry.circuit.now names.entry.layout.now names.entry.outcomes.now names.entry.schedule.now → IfErr result IsOutside }
-    ensures refuses { let r = shelved (S.tells shelf.old) (S.faults shelf.old) (S.faults shelf.new) in
-        (f : Fault_of) → RefusesSchedule r names.entry.circuit.now names.entry.layout.now names.entry.outcomes.now names.entry.schedule.now f → EndsBy f result }
+    ensures replayed { let r = shelved S.tells S.faults shelf.old shelf.new in
+        IfOk result
+        (IsReplayed r names.entry.circuit.now names.entry.layout.now names.entry.outcomes.now
+        names.entry.schedule.now) }
+    ensures stops { let r = shelved S.tells S.faults shelf.old shelf.new in
+        IfErr result
+        (StopsReading r names.entry.circuit.now names.entry.layout.now names.entry.outcomes.now
+        names.entry.schedule.now) }
+    ensures complete { let r = shelved S.tells S.faults shelf.old shelf.new in
+        AcceptsSchedule r names.entry.circuit.now names.entry.layout.now names.entry.outcomes.now
+        names.entry.schedule.now → IfErr result IsOutside }
+    ensures refuses { let r = shelved S.tells S.faults shelf.old shelf.new in
+        (f : Fault_of)
+        → RefusesSchedule r names.entry.circuit.now names.entry.layout.now names.entry.outcomes.now
+        names.entry.schedule.now f → EndsBy f result }
 {
     let job = read_job(alloc, shelf, names.circuit, names.layout, names.outcomes)?;
     match read_text(alloc, shelf, names.schedule, SCHEDULE_BYTES) {
@@ -65,9 +72,11 @@ fn replay(alloc: Global, job: Job, text: &[u8]) -> Result<Replayed, Fault>
     requires { IsJob job }
     ensures replayed { IfOk result (IsReplayedOn job text.now) }
     ensures stops { IfErr result (StopsReplaying job text.now) }
-    ensures complete { (v : Version) (h : List Noted) → IsShort text.now → IsTextOf (asked_of job) text.now v h → IfErr result IsOutside }
+    ensures complete { (v : Version) (h : List Noted) → IsShort text.now
+        → IsTextOf (asked_of job) text.now v h → IfErr result IsOutside }
     ensures long { 67108864 < length text.now → result ≡ Err Fault.ScheduleTooLong }
-    ensures bad { (line : ℕ) → IsShort text.now → FirstBad (asked_of job) text.now line → EndsBy (Fault.ScheduleIllegal line) result }
+    ensures bad { (line : ℕ) → IsShort text.now → FirstBad (asked_of job) text.now line
+        → EndsBy (Fault.ScheduleIllegal line) result }
 {
     if text.len() as u64 > SCHEDULE_BYTES {
         return Err(Fault::ScheduleTooLong);

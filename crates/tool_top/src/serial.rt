@@ -16,7 +16,7 @@ use board_write::{law_complete_boards, write_board};
 use finish_run::finish_by;
 use job_read::{Job, Started, read_job, start_job};
 use patch_base::{Memory, Shelf, Sink};
-use region_plan::{JoiningPlanner, Planner};
+use region_plan::{KeepingPlanner, Planner};
 use source_model::Circuit;
 use std::alloc::Global;
 
@@ -32,17 +32,18 @@ pub fn serial<S: Shelf, O: Sink>(
     ensures told { (n : List ℕ) → S.tells shelf.new n ≡ S.tells shelf.old n }
     ensures counts { (n : List ℕ) → S.faults shelf.old n ≤ S.faults shelf.new n }
     ensures out_counts { O.faults out.old ≤ O.faults out.new }
-    ensures ends { let r = shelved (S.tells shelf.old) (S.faults shelf.old) (S.faults shelf.new) in
-        let w = writing (O.taken out.old) (O.taken out.new) (O.faults out.old) (O.faults out.new) in
+    ensures ends { let r = shelved S.tells S.faults shelf.old shelf.new in
+        let w = writing O.taken O.faults out.old out.new in
         Ends r w (tool.serial circuit.now layout.now outcomes.now) result }
-    ensures complete { let r = shelved (S.tells shelf.old) (S.faults shelf.old) (S.faults shelf.new) in
+    ensures complete { let r = shelved S.tells S.faults shelf.old shelf.new in
         Accepts r (tool.serial circuit.now layout.now outcomes.now) → IsDone result }
-    ensures refuses { let r = shelved (S.tells shelf.old) (S.faults shelf.old) (S.faults shelf.new) in
-        (f : Fault_of) → Refuses r (tool.serial circuit.now layout.now outcomes.now) f → EndsBy f result }
+    ensures refuses { let r = shelved S.tells S.faults shelf.old shelf.new in
+        (f : Fault_of) → Refuses r (tool.serial circuit.now layout.now outcomes.now) f
+        → EndsBy f result }
 {
     law_complete_boards();
     let job = read_job(alloc, shelf, circuit, layout, outcomes)?;
-    let done = carry_out(alloc, job, &mut JoiningPlanner)?;
+    let done = carry_out(alloc, job, &mut KeepingPlanner::new(alloc))?;
     write_board(alloc, &done.circuit, &done.board, out)?;
     Ok(())
 }

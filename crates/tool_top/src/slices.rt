@@ -30,13 +30,20 @@ pub fn slice_schedule<S: Shelf, O: Sink>(
     ensures told { (n : List ℕ) → S.tells shelf.new n ≡ S.tells shelf.old n }
     ensures counts { (n : List ℕ) → S.faults shelf.old n ≤ S.faults shelf.new n }
     ensures out_counts { O.faults out.old ≤ O.faults out.new }
-    ensures ends { let r = shelved (S.tells shelf.old) (S.faults shelf.old) (S.faults shelf.new) in
-        let w = writing (O.taken out.old) (O.taken out.new) (O.faults out.old) (O.faults out.new) in
-        Ends r w (tool.slices names.entry.circuit.now names.entry.layout.now names.entry.outcomes.now names.entry.schedule.now) result }
-    ensures complete { let r = shelved (S.tells shelf.old) (S.faults shelf.old) (S.faults shelf.new) in
-        Accepts r (tool.slices names.entry.circuit.now names.entry.layout.now names.entry.outcomes.now names.entry.schedule.now) → IsDone result }
-    ensures refuses { let r = shelved (S.tells shelf.old) (S.faults shelf.old) (S.faults shelf.new) in
-        (f : Fault_of) → Refuses r (tool.slices names.entry.circuit.now names.entry.layout.now names.entry.outcomes.now names.entry.schedule.now) f → EndsBy f result }
+    ensures ends { let r = shelved S.tells S.faults shelf.old shelf.new in
+        let w = writing O.taken O.faults out.old out.new in
+        Ends r w
+        (tool.slices names.entry.circuit.now names.entry.layout.now names.entry.outcomes.now
+        names.entry.schedule.now) result }
+    ensures complete { let r = shelved S.tells S.faults shelf.old shelf.new in
+        Accepts r
+        (tool.slices names.entry.circuit.now names.entry.layout.now names.entry.outcomes.now
+        names.entry.schedule.now) → IsDone result }
+    ensures refuses { let r = shelved S.tells S.faults shelf.old shelf.new in
+        (f : Fault_of)
+        → Refuses r
+        (tool.slices names.entry.circuit.now names.entry.layout.now names.entry.outcomes.now
+        names.entry.schedule.now) f → EndsBy f result }
 {
     let replayed = read_schedule(alloc, names, shelf)?;
     write_board_slices(alloc, &replayed.board, out)?;
@@ -46,8 +53,9 @@ pub fn slice_schedule<S: Shelf, O: Sink>(
 // Writes the slices of a board's history.
 fn write_board_slices<O: Sink>(alloc: Global, board: &Board, out: &mut O) -> Result<(), WriteFault>
     ensures out_counts { O.faults out.old ≤ O.faults out.new }
-    ensures written { let w = writing (O.taken out.old) (O.taken out.new) (O.faults out.old) (O.faults out.new) in
-        WritesText w (slices_text board.now.job.grid (sliced board.now.job (past board.now))) result }
+    ensures written { let w = writing O.taken O.faults out.old out.new in
+        WritesText w (slices_text board.now.job.grid (sliced board.now.job (past board.now)))
+        result }
 {
     let slices = slices(alloc, board)?;
     match write_slices(alloc, board, &slices, out) {

@@ -49,8 +49,10 @@ pub enum RunCommand<'a> {
 ///
 /// The words are those after the program's name. K and N are decimals without a leading zero.
 pub fn run_command(words: &[String]) -> Option<RunCommand<'_>>
-    ensures listed { IfSome result (λ c. (map string_bytes words.now ≡ run_words (run_of c)) × IsRun (run_of c)) }
-    ensures exact { (r : Run) → map string_bytes words.now ≡ run_words r → IsRun r → IsSomeAnd result (λ c. run_of c ≡ r) }
+    ensures listed { IfSome result (λ c. (map string_bytes words.now ≡ run_words (run_of c))
+        × IsRun (run_of c)) }
+    ensures exact { (r : Run) → map string_bytes words.now ≡ run_words r → IsRun r
+        → IsSomeAnd result (λ c. run_of c ≡ r) }
 {
     if let [name, layout, k, pairs @ ..] = words
         && name.as_str() == "side"
@@ -74,8 +76,11 @@ pub fn run_command(words: &[String]) -> Option<RunCommand<'_>>
 
 // The command behind the word `side`.
 fn with_pairs<'a>(layout: &'a str, k: &'a str, pairs: &'a [String]) -> Option<RunCommand<'a>>
-    ensures listed { IfSome result (λ c. (codes "side" ∷ layout.now ∷ k.now ∷ map string_bytes pairs.now ≡ run_words (run_of c)) × IsRun (run_of c)) }
-    ensures exact { (r : Run) → codes "side" ∷ layout.now ∷ k.now ∷ map string_bytes pairs.now ≡ run_words r → IsRun r → IsSomeAnd result (λ c. run_of c ≡ r) }
+    ensures listed { IfSome result
+        (λ c. (codes "side" ∷ layout.now ∷ k.now ∷ map string_bytes pairs.now
+        ≡ run_words (run_of c)) × IsRun (run_of c)) }
+    ensures exact { (r : Run) → codes "side" ∷ layout.now ∷ k.now ∷ map string_bytes pairs.now
+        ≡ run_words r → IsRun r → IsSomeAnd result (λ c. run_of c ≡ r) }
 {
     let k = number_to(k, ROUTERS)?;
     if pairs.is_empty() || pairs.len() % 2 != 0 || pairs.len() / 2 > MOST_PROGRAMS {
@@ -86,8 +91,10 @@ fn with_pairs<'a>(layout: &'a str, k: &'a str, pairs: &'a [String]) -> Option<Ru
 
 // The command behind the word `big`.
 fn with_size<'a>(n: &str, k: &str) -> Option<RunCommand<'a>>
-    ensures listed { IfSome result (λ c. (codes "big" ∷ n.now ∷ k.now ∷ [] ≡ run_words (run_of c)) × IsRun (run_of c)) }
-    ensures exact { (r : Run) → codes "big" ∷ n.now ∷ k.now ∷ [] ≡ run_words r → IsRun r → IsSomeAnd result (λ c. run_of c ≡ r) }
+    ensures listed { IfSome result (λ c. (codes "big" ∷ n.now ∷ k.now ∷ [] ≡ run_words (run_of c))
+        × IsRun (run_of c)) }
+    ensures exact { (r : Run) → codes "big" ∷ n.now ∷ k.now ∷ [] ≡ run_words r → IsRun r
+        → IsSomeAnd result (λ c. run_of c ≡ r) }
 {
     Some(RunCommand::Big {
         n: number_to(n, MOST_BIG)?,
@@ -103,8 +110,11 @@ fn with_texts<'a>(
     k: &str,
 ) -> Option<RunCommand<'a>>
     requires { name.now ≢ codes "side" }
-    ensures listed { IfSome result (λ c. (name.now ∷ circuit.now ∷ layout.now ∷ outcomes.now ∷ k.now ∷ [] ≡ run_words (run_of c)) × IsRun (run_of c)) }
-    ensures exact { (r : Run) → name.now ∷ circuit.now ∷ layout.now ∷ outcomes.now ∷ k.now ∷ [] ≡ run_words r → IsRun r → IsSomeAnd result (λ c. run_of c ≡ r) }
+    ensures listed { IfSome result
+        (λ c. (name.now ∷ circuit.now ∷ layout.now ∷ outcomes.now ∷ k.now ∷ []
+        ≡ run_words (run_of c)) × IsRun (run_of c)) }
+    ensures exact { (r : Run) → name.now ∷ circuit.now ∷ layout.now ∷ outcomes.now ∷ k.now ∷ []
+        ≡ run_words r → IsRun r → IsSomeAnd result (λ c. run_of c ≡ r) }
 {
     let k = number_to(k, ROUTERS)?;
     match name {

@@ -60,7 +60,8 @@ pub enum ToolCommand<'a> {
 /// The words are those after the program's name.
 pub fn tool_command(words: &[String]) -> Option<ToolCommand<'_>>
     ensures listed { IfSome result (λ c. map string_bytes words.now ≡ tool_words (tool_of c)) }
-    ensures exact { (t : Tool) → map string_bytes words.now ≡ tool_words t → IsSomeAnd result (λ c. tool_of c ≡ t) }
+    ensures exact { (t : Tool) → map string_bytes words.now ≡ tool_words t
+        → IsSomeAnd result (λ c. tool_of c ≡ t) }
 {
     match words {
         [name, circuit] => with_circuit(name.as_str(), circuit.as_str()),
@@ -86,7 +87,8 @@ pub fn tool_command(words: &[String]) -> Option<ToolCommand<'_>>
 
 fn with_circuit<'a>(name: &'a str, circuit: &'a str) -> Option<ToolCommand<'a>>
     ensures listed { IfSome result (λ c. name.now ∷ circuit.now ∷ [] ≡ tool_words (tool_of c)) }
-    ensures exact { (t : Tool) → name.now ∷ circuit.now ∷ [] ≡ tool_words t → IsSomeAnd result (λ c. tool_of c ≡ t) }
+    ensures exact { (t : Tool) → name.now ∷ circuit.now ∷ [] ≡ tool_words t
+        → IsSomeAnd result (λ c. tool_of c ≡ t) }
 {
     match name {
         "lower" => Some(ToolCommand::Lower { circuit }),
@@ -96,8 +98,10 @@ fn with_circuit<'a>(name: &'a str, circuit: &'a str) -> Option<ToolCommand<'a>>
 }
 
 fn with_layout<'a>(name: &'a str, circuit: &'a str, layout: &'a str) -> Option<ToolCommand<'a>>
-    ensures listed { IfSome result (λ c. name.now ∷ circuit.now ∷ layout.now ∷ [] ≡ tool_words (tool_of c)) }
-    ensures exact { (t : Tool) → name.now ∷ circuit.now ∷ layout.now ∷ [] ≡ tool_words t → IsSomeAnd result (λ c. tool_of c ≡ t) }
+    ensures listed { IfSome result (λ c. name.now ∷ circuit.now ∷ layout.now ∷ []
+        ≡ tool_words (tool_of c)) }
+    ensures exact { (t : Tool) → name.now ∷ circuit.now ∷ layout.now ∷ [] ≡ tool_words t
+        → IsSomeAnd result (λ c. tool_of c ≡ t) }
 {
     match name {
         "layout" => Some(ToolCommand::Layout { circuit, layout }),
@@ -111,8 +115,10 @@ fn with_outcomes<'a>(
     layout: &'a str,
     outcomes: &'a str,
 ) -> Option<ToolCommand<'a>>
-    ensures listed { IfSome result (λ c. name.now ∷ circuit.now ∷ layout.now ∷ outcomes.now ∷ [] ≡ tool_words (tool_of c)) }
-    ensures exact { (t : Tool) → name.now ∷ circuit.now ∷ layout.now ∷ outcomes.now ∷ [] ≡ tool_words t → IsSomeAnd result (λ c. tool_of c ≡ t) }
+    ensures listed { IfSome result (λ c. name.now ∷ circuit.now ∷ layout.now ∷ outcomes.now ∷ []
+        ≡ tool_words (tool_of c)) }
+    ensures exact { (t : Tool) → name.now ∷ circuit.now ∷ layout.now ∷ outcomes.now ∷ []
+        ≡ tool_words t → IsSomeAnd result (λ c. tool_of c ≡ t) }
 {
     match name {
         "serial" => Some(ToolCommand::Serial {
@@ -136,8 +142,12 @@ fn with_schedule<'a>(
     outcomes: &'a str,
     schedule: &'a str,
 ) -> Option<ToolCommand<'a>>
-    ensures listed { IfSome result (λ c. name.now ∷ circuit.now ∷ layout.now ∷ outcomes.now ∷ schedule.now ∷ [] ≡ tool_words (tool_of c)) }
-    ensures exact { (t : Tool) → name.now ∷ circuit.now ∷ layout.now ∷ outcomes.now ∷ schedule.now ∷ [] ≡ tool_words t → IsSomeAnd result (λ c. tool_of c ≡ t) }
+    ensures listed { IfSome result
+        (λ c. name.now ∷ circuit.now ∷ layout.now ∷ outcomes.now ∷ schedule.now ∷ []
+        ≡ tool_words (tool_of c)) }
+    ensures exact { (t : Tool)
+        → name.now ∷ circuit.now ∷ layout.now ∷ outcomes.now ∷ schedule.now ∷ [] ≡ tool_words t
+        → IsSomeAnd result (λ c. tool_of c ≡ t) }
 {
     match name {
         "verify" => Some(ToolCommand::Verify {

@@ -1,4 +1,4 @@
-use Rattle.std.proofs.Common.{ℕ, List, subst}
+use Rattle.std.proofs.Common.{List, subst}
 use Rattle.source_model.specs.declared.Given.{Given}
 use Rattle.schedule_text.specs.Lines.{version_of}
 use Rattle.history_replay.specs.declared.enter.Entered.{Entered}

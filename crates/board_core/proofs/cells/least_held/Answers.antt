@@ -1,14 +1,14 @@
 use Rattle.std.proofs.Common.{arith}
-use Rattle.board_core.proofs.CellTables.{cell_in, least_next, least_end}
+use Rattle.board_core.proofs.CellTables.{port_within, least_port}
 use Rattle.board_core.proofs.cells.least_held.Goals as goal
 
-pub better-best-requires : goal.better-best-requires
-better-best-requires c = cell_in c.args.layout.now c.args.axis.now c.args.port c.args.cells.now c.loop-number.number c.args.holders.now c.cell_at-cell.result c.requires.sizes c.requires.cells c.cell_at-cell.ensures
-
-pub loop-number-preserved : goal.loop-number-preserved
-loop-number-preserved c =
-    rw c.better-best.ensures
-    (least_next c.args.layout.now c.args.axis.now c.args.port c.args.cells.now c.loop-number.number c.args.holders.now c.loop-number.best c.cell_at-cell.result c.requires.sizes c.requires.cells c.cell_at-cell.ensures c.loop-number.invariant)
+pub better-requires : goal.better-requires
+better-requires c k e =
+    let w = port_within c.args.layout.now c.args.port c.port_at.result c.port_at.ensures k e in
+    let s = c.requires.sizes in
+    omega arith
 
 pub returns : goal.returns
-returns c = least_end c.args.layout.now c.args.axis.now c.args.port c.args.cells.now c.loop-number.number c.args.holders.now c.loop-number.best (omega arith) c.loop-number.invariant
+returns c =
+    least_port c.args.layout.now c.args.axis.now c.args.port c.args.cells.now c.args.holders.now c.least_of_patches-patches.result c.better.result c.port_at.result c.better.ensures c.requires.sizes c.port_at.ensures
+    (c.least_of_patches-patches.ensures c.args.port c.args.cells.now (c.least_of_region-region.ensures c.args.layout.now c.args.axis.now c.args.port))

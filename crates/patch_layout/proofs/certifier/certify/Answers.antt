@@ -4,15 +4,19 @@ use Rattle.patch_layout.specs.Certificate.{Certified}
 use Rattle.patch_layout.specs.Case.{Ascending}
 use Rattle.patch_layout.specs.Region.{Fit}
 use Rattle.patch_layout.proofs.Judging.{few_cells}
-use Rattle.patch_layout.proofs.Certifying.{both_listed, neither_listed, lists_given}
+use Rattle.patch_layout.proofs.Certifying.{both_listed, fits_ascending, neither_listed, lists_given}
 use Rattle.patch_layout.proofs.certifier.certify.Goals as goal
 
 pub returns-then-not-cells_fit-clause-certified : goal.returns-then-not-cells_fit-clause-certified
 returns-then-not-cells_fit-clause-certified c =
     neither_listed _ c.cells-list.result.now c.cells_fit.result c.cells-list.ensures c.cells_fit.ensures.value c.if-not-cells_fit.true
 
-pub touches_of-requires : goal.touches_of-requires
-touches_of-requires c = few_cells c.args.layout.now c.cells-list.result.now _ c.cells_fit.ensures.sound (c.cells_fit.ensures.value.0 c.if-not-cells_fit.false).1
+pub touches_of-requires-clause-few : goal.touches_of-requires-clause-few
+touches_of-requires-clause-few c = few_cells c.args.layout.now c.cells-list.result.now _ c.cells_fit.ensures.sound (c.cells_fit.ensures.value.0 c.if-not-cells_fit.false).1
+
+pub touches_of-requires-clause-ascending : goal.touches_of-requires-clause-ascending
+touches_of-requires-clause-ascending c =
+    fits_ascending c.args.layout.now c.cells-list.result.now (c.cells_fit.ensures.value.0 c.if-not-cells_fit.false).1
 
 pub returns-clause-certified : goal.returns-clause-certified
 returns-clause-certified c =

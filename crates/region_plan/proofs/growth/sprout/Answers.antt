@@ -12,7 +12,7 @@ returns-then-branch c =
       c.args.first,
       refl,
       sprouted c.args.layout.now (Free c.args.layout.now c.args.held.now) c.args.sides.now c.args.first c.in_ok-tree.tree.tree c.grow.new.tree.tree c.grow.new.touched.items c.in_ok-grow.field-0
-          c.if-branch.true start c.requires c.in_ok-grow.ensures.sprung,
+          c.if-branch.true start c.requires.first c.in_ok-grow.ensures.sprung,
       (c.size-size.ensures.sound, omega (arith, size, c.size-size.ensures.value, c.in_ok-grow.ensures.size), omega (arith, c.size-size.ensures.value, c.in_ok-seen.ensures, c.in_ok-grow.ensures.marks)),
     )
 

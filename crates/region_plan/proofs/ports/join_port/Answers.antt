@@ -1,8 +1,9 @@
-use Rattle.std.proofs.Common.{ℕ, List, Option, refl, subst, arith}
+use Rattle.std.proofs.Common.{ℕ, List, Option, refl, sym, subst, arith}
 use Rattle.patch_layout.specs.declared.layout.Side.TheVariants as side
 use Rattle.patch_layout.specs.Region.{OnSide}
 use Rattle.region_plan.specs.Free.{Free}
 use Rattle.region_plan.specs.Tree.{Grafted, Rooted}
+use Rattle.region_plan.specs.Kept.{Suits}
 use Rattle.region_plan.proofs.Porting.{not_reached, goes_on}
 use Rattle.region_plan.proofs.ports.join_port.Goals as goal
 
@@ -24,3 +25,6 @@ returns-in-None c =
       (c.requires.tables.0, omega (arith, c.requires.tables.1, c.in_ok-place.ensures.size), omega (arith, c.requires.tables.2, c.in_ok-place.ensures.marks)),
       λ _. none,
     )
+
+pub join-requires-clause-suits : goal.join-requires-clause-suits
+join-requires-clause-suits c = let P : List (Option ℕ) → Type 0 = λ h. Suits c.args.layout.now h c.args.walks.now in subst P (sym c.as_slice.ensures) c.requires.suits

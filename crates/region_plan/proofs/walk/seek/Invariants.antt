@@ -1,11 +1,7 @@
 use Rattle.std.proofs.Common.{◌+◌, ◌-◌, length}
 use Rattle.patch_layout.specs.Spread.{unseen}
-use Rattle.region_plan.proofs.Seeking.{Seeking, AtCell}
+use Rattle.region_plan.proofs.Seeking.{Seeking}
 use Rattle.region_plan.proofs.walk.seek.Given as goal
-
-abbrev pub invariant-loop-neighbour : goal.invariant-loop-neighbour
-invariant-loop-neighbour l =
-    AtCell l.layout l.held l.fn.pair l.tree.tree l.queue.items l.head l.seen l.at l.neighbour-items l.neighbour-index (length l.initial.queue.items + unseen l.initial.seen)
 
 abbrev pub invariant-loop-head : goal.invariant-loop-head
 invariant-loop-head l = Seeking l.layout l.held l.fn.pair l.tree.tree l.queue.items l.head l.seen

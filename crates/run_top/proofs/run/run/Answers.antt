@@ -12,15 +12,15 @@ use Rattle.run_top.proofs.run.run.Goals as goal
 pub returns-clause-ends : goal.returns-clause-ends
 returns-clause-ends g c =
     run_attempt
-    (shelved (g.S.Shelf.tells c.args.shelf.now) (g.S.Shelf.faults c.args.shelf.now) (g.S.Shelf.faults c.read_job.new.shelf))
-    (writing (g.O.Sink.taken c.args.out.now) (g.O.Sink.taken c.write_board.new.out) (g.O.Sink.faults c.args.out.now) (g.O.Sink.faults c.write_board.new.out))
+    (shelved g.S.Shelf.tells g.S.Shelf.faults c.args.shelf.now c.read_job.new.shelf)
+    (writing g.O.Sink.taken g.O.Sink.faults c.args.out.now c.write_board.new.out)
     c.args.asked.circuit.now c.args.asked.layout.now c.args.asked.outcomes.now c.args.asked.k c.in_ok-job.job c.in_ok-done.done.circuit c.in_ok-done.done.board (Ok tt)
     c.law_complete_boards.ensures c.in_ok-job.ensures.accepted c.in_ok-job.ensures.kept c.in_ok-done.ensures.circuit c.in_ok-done.ensures.board c.in_ok-write_board.ensures.written
 
 pub returns-in_err-write_board-clause-ends : goal.returns-in_err-write_board-clause-ends
 returns-in_err-write_board-clause-ends g c =
-    let r = shelved (g.S.Shelf.tells c.args.shelf.now) (g.S.Shelf.faults c.args.shelf.now) (g.S.Shelf.faults c.read_job.new.shelf) in
-    let w = writing (g.O.Sink.taken c.args.out.now) (g.O.Sink.taken c.write_board.new.out) (g.O.Sink.faults c.args.out.now) (g.O.Sink.faults c.write_board.new.out) in
+    let r = shelved g.S.Shelf.tells g.S.Shelf.faults c.args.shelf.now c.read_job.new.shelf in
+    let w = writing g.O.Sink.taken g.O.Sink.faults c.args.out.now c.write_board.new.out in
     let f = c.in_err-write_board.field-0.0 in
     stopped_ends r w (words.run c.args.asked.circuit.now c.args.asked.layout.now c.args.asked.outcomes.now c.args.asked.k) f c.from_residual-in_err-write_board.result c.from_residual-in_err-write_board.ensures.1
     (run_attempt r w c.args.asked.circuit.now c.args.asked.layout.now c.args.asked.outcomes.now c.args.asked.k c.in_ok-job.job c.in_ok-done.done.circuit c.in_ok-done.done.board (Err f)

@@ -10,15 +10,15 @@ use Rattle.tool_top.proofs.migrate.migrate_schedule.Goals as goal
 pub returns-clause-ends : goal.returns-clause-ends
 returns-clause-ends g c =
     migrate_attempt
-    (shelved (g.S.Shelf.tells c.args.shelf.now) (g.S.Shelf.faults c.args.shelf.now) (g.S.Shelf.faults c.read_schedule.new.shelf))
-    (writing (g.O.Sink.taken c.args.out.now) (g.O.Sink.taken c.write_board.new.out) (g.O.Sink.faults c.args.out.now) (g.O.Sink.faults c.write_board.new.out))
+    (shelved g.S.Shelf.tells g.S.Shelf.faults c.args.shelf.now c.read_schedule.new.shelf)
+    (writing g.O.Sink.taken g.O.Sink.faults c.args.out.now c.write_board.new.out)
     c.args.names.circuit.now c.args.names.layout.now c.args.names.outcomes.now c.args.names.schedule.now
     c.in_ok-replayed.replayed (Ok tt) c.in_ok-replayed.ensures.replayed c.in_ok-write_board.ensures.written
 
 pub returns-in_err-write_board-clause-ends : goal.returns-in_err-write_board-clause-ends
 returns-in_err-write_board-clause-ends g c =
-    let r = shelved (g.S.Shelf.tells c.args.shelf.now) (g.S.Shelf.faults c.args.shelf.now) (g.S.Shelf.faults c.read_schedule.new.shelf) in
-    let w = writing (g.O.Sink.taken c.args.out.now) (g.O.Sink.taken c.write_board.new.out) (g.O.Sink.faults c.args.out.now) (g.O.Sink.faults c.write_board.new.out) in
+    let r = shelved g.S.Shelf.tells g.S.Shelf.faults c.args.shelf.now c.read_schedule.new.shelf in
+    let w = writing g.O.Sink.taken g.O.Sink.faults c.args.out.now c.write_board.new.out in
     let f = c.in_err-write_board.field-0.0 in
     stopped_ends r w (tool.migrate c.args.names.circuit.now c.args.names.layout.now c.args.names.outcomes.now c.args.names.schedule.now) f c.from_residual-in_err-write_board.result c.from_residual-in_err-write_board.ensures.1
     (migrate_attempt r w c.args.names.circuit.now c.args.names.layout.now c.args.names.outcomes.now c.args.names.schedule.now

@@ -17,7 +17,7 @@ pub returns-in-Ok-clause-replayed : goal.returns-in-Ok-clause-replayed
 returns-in-Ok-clause-replayed g c =
     let replayed = rw c.deref.ensures.value at c.replay.ensures.replayed in
     ok_map c.replay.result (IsReplayedOn c.in_ok-job.job c.in-Ok.text.items)
-    (IsReplayed (shelved (g.S.Shelf.tells c.args.shelf.now) (g.S.Shelf.faults c.args.shelf.now) (g.S.Shelf.faults c.read_text.new.shelf)) c.args.names.circuit.now c.args.names.layout.now c.args.names.outcomes.now c.args.names.schedule.now)
+    (IsReplayed (shelved g.S.Shelf.tells g.S.Shelf.faults c.args.shelf.now c.read_text.new.shelf) c.args.names.circuit.now c.args.names.layout.now c.args.names.outcomes.now c.args.names.schedule.now)
     (λ x i. is_replayed (g.S.Shelf.tells c.args.shelf.now) (g.S.Shelf.tells c.read_job.new.shelf) (g.S.Shelf.faults c.args.shelf.now) (g.S.Shelf.faults c.read_job.new.shelf) (g.S.Shelf.faults c.read_text.new.shelf)
     c.args.names.circuit.now c.args.names.layout.now c.args.names.outcomes.now c.args.names.schedule.now c.in_ok-job.job c.in-Ok.text.items x
     c.in_ok-job.ensures.accepted c.in_ok-job.ensures.kept (c.in_ok-job.ensures.told c.args.names.schedule.now) c.in-Ok.ensures.text i)
@@ -27,7 +27,7 @@ pub returns-in-Ok-clause-stops : goal.returns-in-Ok-clause-stops
 returns-in-Ok-clause-stops g c =
     let stops = rw c.deref.ensures.value at c.replay.ensures.stops in
     err_map c.replay.result (StopsReplaying c.in_ok-job.job c.in-Ok.text.items)
-    (StopsReading (shelved (g.S.Shelf.tells c.args.shelf.now) (g.S.Shelf.faults c.args.shelf.now) (g.S.Shelf.faults c.read_text.new.shelf)) c.args.names.circuit.now c.args.names.layout.now c.args.names.outcomes.now c.args.names.schedule.now)
+    (StopsReading (shelved g.S.Shelf.tells g.S.Shelf.faults c.args.shelf.now c.read_text.new.shelf) c.args.names.circuit.now c.args.names.layout.now c.args.names.outcomes.now c.args.names.schedule.now)
     (λ f h. stops_replay (g.S.Shelf.tells c.args.shelf.now) (g.S.Shelf.tells c.read_job.new.shelf) (g.S.Shelf.faults c.args.shelf.now) (g.S.Shelf.faults c.read_job.new.shelf) (g.S.Shelf.faults c.read_text.new.shelf)
     c.args.names.circuit.now c.args.names.layout.now c.args.names.outcomes.now c.args.names.schedule.now c.in_ok-job.job c.in-Ok.text.items f
     c.in_ok-job.ensures.accepted (c.in_ok-job.ensures.told c.args.names.schedule.now) c.in-Ok.ensures.text h)
@@ -50,7 +50,7 @@ returns-in_err-job-clause-refuses g c = λ f x.
     let e = c.in_err-job.field-0.0 in
     let end = c.from_residual.result in
     let is = c.from_residual.ensures.1 in
-    by_schedule (λ (h : Fault). EndsBy h end) (shelved (g.S.Shelf.tells c.args.shelf.now) (g.S.Shelf.faults c.args.shelf.now) (g.S.Shelf.faults c.read_job.new.shelf))
+    by_schedule (λ (h : Fault). EndsBy h end) (shelved g.S.Shelf.tells g.S.Shelf.faults c.args.shelf.now c.read_job.new.shelf)
     c.args.names.circuit.now c.args.names.layout.now c.args.names.outcomes.now c.args.names.schedule.now
     (λ h told refused. ends_by e h end is (c.in_err-job.ensures.faults h told refused))
     (λ j tells told stands past. ends_outside (fault.Job e) fault.ScheduleTooLong end is (c.in_err-job.ensures.exact j tells stands))
@@ -62,7 +62,7 @@ returns-in-Ok-clause-refuses g c = λ f x.
     let s = c.args.names.schedule.now in
     let text = c.in-Ok.text.items in
     let end = c.replay.result in
-    by_schedule (λ (h : Fault). EndsBy h end) (shelved (g.S.Shelf.tells c.args.shelf.now) (g.S.Shelf.faults c.args.shelf.now) (g.S.Shelf.faults c.read_text.new.shelf))
+    by_schedule (λ (h : Fault). EndsBy h end) (shelved g.S.Shelf.tells g.S.Shelf.faults c.args.shelf.now c.read_text.new.shelf)
     c.args.names.circuit.now c.args.names.layout.now c.args.names.outcomes.now s
     (λ h told refused. absurd (c.in_ok-job.ensures.faults h told refused))
     (λ j tells told stands past.

@@ -15,15 +15,15 @@ use Rattle.tool_top.proofs.serial.serial.Goals as goal
 pub returns-clause-ends : goal.returns-clause-ends
 returns-clause-ends g c =
     scheduled LeastJoined
-    (shelved (g.S.Shelf.tells c.args.shelf.now) (g.S.Shelf.faults c.args.shelf.now) (g.S.Shelf.faults c.read_job.new.shelf))
-    (writing (g.O.Sink.taken c.args.out.now) (g.O.Sink.taken c.write_board.new.out) (g.O.Sink.faults c.args.out.now) (g.O.Sink.faults c.write_board.new.out))
+    (shelved g.S.Shelf.tells g.S.Shelf.faults c.args.shelf.now c.read_job.new.shelf)
+    (writing g.O.Sink.taken g.O.Sink.faults c.args.out.now c.write_board.new.out)
     c.args.circuit.now c.args.layout.now c.args.outcomes.now (tool.serial c.args.circuit.now c.args.layout.now c.args.outcomes.now) c.in_ok-job.job c.in_ok-done.done.circuit c.in_ok-done.done.board (Ok tt) (λ text o. o)
     c.law_complete_boards.ensures c.in_ok-job.ensures.accepted c.in_ok-job.ensures.kept c.in_ok-done.ensures.circuit c.in_ok-done.ensures.board c.in_ok-write_board.ensures.written
 
 pub returns-in_err-write_board-clause-ends : goal.returns-in_err-write_board-clause-ends
 returns-in_err-write_board-clause-ends g c =
-    let r = shelved (g.S.Shelf.tells c.args.shelf.now) (g.S.Shelf.faults c.args.shelf.now) (g.S.Shelf.faults c.read_job.new.shelf) in
-    let w = writing (g.O.Sink.taken c.args.out.now) (g.O.Sink.taken c.write_board.new.out) (g.O.Sink.faults c.args.out.now) (g.O.Sink.faults c.write_board.new.out) in
+    let r = shelved g.S.Shelf.tells g.S.Shelf.faults c.args.shelf.now c.read_job.new.shelf in
+    let w = writing g.O.Sink.taken g.O.Sink.faults c.args.out.now c.write_board.new.out in
     let f = c.in_err-write_board.field-0.0 in
     stopped_ends r w (tool.serial c.args.circuit.now c.args.layout.now c.args.outcomes.now) f c.from_residual-in_err-write_board.result c.from_residual-in_err-write_board.ensures.1
     (scheduled LeastJoined r w c.args.circuit.now c.args.layout.now c.args.outcomes.now (tool.serial c.args.circuit.now c.args.layout.now c.args.outcomes.now) c.in_ok-job.job c.in_ok-done.done.circuit c.in_ok-done.done.board (Err f) (λ text o. o)

@@ -15,9 +15,9 @@ returns-in_err-write_all-clause-complete g c = λ a.
 pub returns-in_err-write_all-clause-ends : goal.returns-in_err-write_all-clause-ends
 returns-in_err-write_all-clause-ends g c =
     let read = c.in_ok-_replayed.ensures.replayed in
-    let w = writing (g.O.Sink.taken c.args.out.now) (g.O.Sink.taken c.write_all.new.out) (g.O.Sink.faults c.args.out.now) (g.O.Sink.faults c.write_all.new.out) in
+    let w = writing g.O.Sink.taken g.O.Sink.faults c.args.out.now c.write_all.new.out in
     unwritten_ends
-    (shelved (g.S.Shelf.tells c.args.shelf.now) (g.S.Shelf.faults c.args.shelf.now) (g.S.Shelf.faults c.read_schedule.new.shelf)) w
+    (shelved g.S.Shelf.tells g.S.Shelf.faults c.args.shelf.now c.read_schedule.new.shelf) w
     (tool.verify c.args.names.circuit.now c.args.names.layout.now c.args.names.outcomes.now c.args.names.schedule.now) verdict c.from_residual-in_err-write_all.result c.from_residual-in_err-write_all.ensures.1
     (read.job, read.stands, (read.version, c.in_ok-_replayed._replayed.board.history, read.schedule, refl))
     (c.in_err-write_all.ensures.failed, c.in_err-write_all.ensures.prefix)

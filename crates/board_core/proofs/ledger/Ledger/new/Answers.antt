@@ -10,5 +10,5 @@ returns c =
     rw c.pool.view_is
     (kept_new c.args.products.now c.args.layout.now c.args.order c.in_ok-new.field-0 c.in_ok-new-2.field-0 _ _ _ c.args.pool c.in_ok-identity.field-0 c.qubits_of-qubits.result c.bit_count.result
     c.requires.limits c.size.ensures.sound c.requires.open c.requires.letters c.qubits_of-qubits.ensures.0 c.qubits_of-qubits.ensures.1 c.requires.order c.in_ok-new.ensures c.in_ok-new-2.ensures c.in_ok-no_places.ensures
-    (c.in_ok-no_holders.ensures ∙ ap (λ (n : ℕ). replicate n None) c.size.ensures.value) c.in_ok-no_bits.ensures c.bit_count.ensures c.requires.pool c.requires.makers
+    (c.in_ok-new-3.ensures ∙ ap (λ (n : ℕ). replicate n None) c.size.ensures.value) c.in_ok-no_bits.ensures c.bit_count.ensures c.requires.pool c.requires.makers
     (ap (λ (p : Signed). length p.letters) c.in_ok-identity.ensures ∙ length-replicate c.qubits_of-qubits.result I))

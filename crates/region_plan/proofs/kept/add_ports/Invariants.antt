@@ -1,0 +1,5 @@
+use Rattle.region_plan.specs.Kept.{Suits}
+use Rattle.region_plan.proofs.kept.add_ports.Given as goal
+
+abbrev pub invariant-loop-factory : goal.invariant-loop-factory
+invariant-loop-factory l = Suits l.layout l.held l.walks.items
