@@ -19,7 +19,7 @@ first b [] = b
 first b (x ∷ xs) = x.1
 
 -- the board that was lent is the one in hand
-board_is : (m : Sat) (b : Position) → HasBoard m m.0.seen → m.1 ≡ (0, b) ∷ rest m.1 → b ≡ board_of m
+pub board_is : (m : Sat) (b : Position) → HasBoard m m.0.seen → m.1 ≡ (0, b) ∷ rest m.1 → b ≡ board_of m
 board_is m b hand lent = ap (first b) (sym lent ∙ hand.2)
 
 pub refuses_claim : (m : Sat) (b after : Position) (plan : Plan) (node : Ptr) (r : Result Claimed ClaimRefused) → HasBoard m m.0.seen → m.1 ≡ (0, b) ∷ rest m.1

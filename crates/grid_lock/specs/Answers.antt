@@ -1,6 +1,6 @@
 -- What a board answers at its history: what is accepted there, and why another call is refused. Nothing that is allowed is
 -- refused.
-use Rattle.std.specs.Prelude.{◌≡◌, ℕ, ◌≤◌, length, Option, None, Some, is_some}
+use Rattle.std.specs.Prelude.{◌≡◌, ℕ, ◌<◌, ◌≤◌, length, Option, None, Some, is_some}
 use Rattle.pauli_product.specs.Signed.{Signed, IsNotIdentity}
 use Rattle.source_model.specs.declared.Given.{Given}
 use Rattle.patch_layout.specs.declared.plan.Plan.{Plan}
@@ -17,7 +17,7 @@ use Rattle.board_core.specs.declared.board.ReleaseWhy.{ReleaseWhy}
 use Rattle.board_core.specs.declared.board.BoardStepWhy.{BoardStepWhy}
 use Rattle.board_core.specs.History.{done_place}
 use Rattle.board_core.specs.Legal.{Allowed, AxisOf}
-use Rattle.board_core.specs.View.{claimed_axis}
+use Rattle.board_core.specs.View.{LeastWait, claimed_axis}
 use Rattle.board_core.specs.Shows.{Shows}
 use Rattle.board_core.specs.Position.{Position, past}
 use Rattle.board_core.specs.Causes.{ClaimRefusedBecause, DeliverRefusedBecause, EntryOf, IsClaimable, IsDeliverable, ReleaseRefusedBecause, StepRefusedBecause, claim_of, stepped_by}
@@ -78,3 +78,11 @@ pub record ShowsProduct (b : Position) (p : ℕ) (look : Look) : Type 0 where
 pub record ShowsNothing (b : Position) (p : ℕ) (before look : Look) : Type 0 where
   pub no_product : length b.job.products ≤ p
   pub unchanged : look ≡ before
+
+-- ---- what a product waits on
+abbrev pub HasNoProduct : Position → ℕ → Type 0
+HasNoProduct b p = length b.job.products ≤ p
+
+-- the product is there, and this is the least earlier one that doesn't commute with it and isn't done, if there is one
+abbrev pub WaitsFor : Position → ℕ → Option ℕ → Type 0
+WaitsFor b p on = (p < length b.job.products) × LeastWait b.job.products (past b) p on

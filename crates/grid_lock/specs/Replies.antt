@@ -1,5 +1,5 @@
 -- What each call on a grid answers, and what its pass knows afterwards.
-use Rattle.std.specs.Prelude.{◌≡◌, ℕ, ◌+◌, ◌≤◌, false, List, [], ◌∷◌, ◌++◌, length, Result, Ok, Err}
+use Rattle.std.specs.Prelude.{◌≡◌, ℕ, ◌+◌, ◌≤◌, false, List, [], ◌∷◌, ◌++◌, length, None, Some, Result, Ok, Err}
 use Rattle.source_model.specs.declared.Given.{Given}
 use Rattle.patch_layout.specs.declared.plan.Plan.{Plan}
 use Rattle.patch_layout.specs.declared.look.Look.{Look}
@@ -9,11 +9,13 @@ use Rattle.board_core.specs.declared.Noted.{Noted}
 use Rattle.board_core.specs.declared.Entry.{Entry}
 use Rattle.board_core.specs.declared.Entry.TheVariants.{Release, Step}
 use Rattle.board_core.specs.declared.board.Claimed.{Claimed}
-use Rattle.board_core.specs.Position.{Position, with_history, IsLegal, note}
+use Rattle.board_core.specs.Position.{Position, with_history, note}
 use Rattle.board_core.specs.Causes.{claim_of}
 use Rattle.grid_lock.specs.declared.view.View.{View}
 use Rattle.grid_lock.specs.declared.replies.TryLook.{TryLook}
 use Rattle.grid_lock.specs.declared.replies.TryLook.TheVariants as look
+use Rattle.grid_lock.specs.declared.replies.TryWaits.{TryWaits}
+use Rattle.grid_lock.specs.declared.replies.TryWaits.TheVariants as waits
 use Rattle.grid_lock.specs.declared.replies.TryClaim.{TryClaim}
 use Rattle.grid_lock.specs.declared.replies.TryClaim.TheVariants as claim
 use Rattle.grid_lock.specs.declared.replies.TryDeliver.{TryDeliver}
@@ -23,7 +25,7 @@ use Rattle.grid_lock.specs.declared.replies.TryRelease.TheVariants as release
 use Rattle.grid_lock.specs.declared.replies.TryStep.{TryStep}
 use Rattle.grid_lock.specs.declared.replies.TryStep.TheVariants as step
 use Rattle.grid_lock.specs.Views.{Continues, met, reading}
-use Rattle.grid_lock.specs.Answers.{AcceptsClaim, RefusesClaim, AcceptsOutcome, RefusesOutcome, AcceptsRelease, RefusesRelease, AcceptsStep, RefusesStep, ShowsProduct, ShowsNothing}
+use Rattle.grid_lock.specs.Answers.{AcceptsClaim, RefusesClaim, AcceptsOutcome, RefusesOutcome, AcceptsRelease, RefusesRelease, AcceptsStep, RefusesStep, ShowsProduct, ShowsNothing, WaitsFor, HasNoProduct}
 
 -- the pass held the turn once: it has seen these entries and made those
 abbrev pub turned : View → List Noted → List Noted → View
@@ -70,6 +72,12 @@ abbrev pub Looks : View → ℕ → Look → Result (Unit {0}) TryLook → View 
 Looks v p before (Ok _) w after = Finds v (λ b. ShowsProduct b p after) w
 Looks v p before (Err look.NoProduct) w after = Finds v (λ b. ShowsNothing b p before after) w
 Looks v p before (Err look.Busy) w after = (w ≡ met v) × (after ≡ before)
+
+abbrev pub AnswersWaits : View → ℕ → TryWaits → View → Type 0
+AnswersWaits v p waits.Busy w = w ≡ met v
+AnswersWaits v p waits.NoProduct w = Finds v (λ b. HasNoProduct b p) w
+AnswersWaits v p (waits.Waits on) w = Finds v (λ b. WaitsFor b p (Some on)) w
+AnswersWaits v p waits.Ready w = Finds v (λ b. WaitsFor b p None) w
 
 -- the length n was loaded
 abbrev pub Measures : View → ℕ → View → Type 0

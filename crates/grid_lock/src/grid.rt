@@ -6,13 +6,13 @@ ghost use Rattle.board_core.specs.declared.Noted.{Noted as Entries};
 ghost use Rattle.board_core.specs.Shows.{IsMadeFor};
 ghost use Rattle.grid_lock.specs.Views.{opener, dealing, newcomer};
 ghost use Rattle.grid_lock.specs.Passes.{Known, known, IsOf, IsSamePass, IsCalm, Closes, gathered};
-ghost use Rattle.grid_lock.specs.Replies.{Claims, Delivers, Releases, Steps, Looks, Measures};
+ghost use Rattle.grid_lock.specs.Replies.{Claims, Delivers, Releases, Steps, Looks, Measures, AnswersWaits};
 
 use crate::plays::{Deal, Gather, OneHistory};
-use crate::replies::{TryClaim, TryDeliver, TryLook, TryRelease, TryStep};
+use crate::replies::{TryClaim, TryDeliver, TryLook, TryRelease, TryStep, TryWaits};
 use crate::steps::{
     Core, PassSeat, claim_in_hand, deliver_in_hand, give_back, look_in_hand, measure,
-    release_in_hand, settle, step_in_hand, take_turn,
+    release_in_hand, settle, step_in_hand, take_turn, waits_in_hand,
 };
 use crate::view::View;
 use atomic_table::{Refused, Table};
@@ -193,6 +193,29 @@ impl Grid {
         ensures rests { IsCalm pass.new }
     {
         measure(&self.table.shared, &mut pass.seat)
+    }
+
+    /// What a product waits on. Nothing is copied, so that this is cheaper than a look.
+    pub fn try_waits(&self, pass: &mut Pass, p: u32) -> TryWaits
+        requires grid { IsOf self.now pass.old }
+        ensures grid { IsOf self.now pass.new }
+        ensures same { IsSamePass pass.old pass.new }
+        ensures told { AnswersWaits pass.old.view p result pass.new.view }
+        ensures rests { IsCalm pass.new }
+    {
+        let core = &self.table.shared;
+        if !take_turn(core, &mut pass.seat) {
+            return TryWaits::Busy;
+        }
+        let waits = waits_in_hand(core, &mut pass.seat, p);
+        give_back(core, &mut pass.seat);
+        let Ok(waits) = waits else {
+            return TryWaits::NoProduct;
+        };
+        match waits {
+            Some(on) => TryWaits::Waits { on },
+            None => TryWaits::Ready,
+        }
     }
 
     /// Fills a look with what the board shows of a product. The look was made for the layout of the opened board, and

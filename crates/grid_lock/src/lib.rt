@@ -13,5 +13,5 @@ mod view;
 
 pub use grid::{CloseRefused, Grid, OpenMemory, Pass};
 pub use laws::{law_moment, law_threads};
-pub use replies::{TryClaim, TryDeliver, TryLook, TryRelease, TryStep};
+pub use replies::{TryClaim, TryDeliver, TryLook, TryRelease, TryStep, TryWaits};
 pub use view::{Gone, View};

@@ -13,6 +13,19 @@ pub enum TryLook {
     NoProduct,
 }
 
+/// What a product waits on.
+#[derive(Clone, Copy, Debug, PartialEq, Eq, Drop)]
+pub enum TryWaits {
+    /// Another pass held the turn.
+    Busy,
+    /// There is no such product.
+    NoProduct,
+    /// It waits on this one, the least earlier product that doesn't commute with it and isn't done.
+    Waits { on: u32 },
+    /// It waits on none.
+    Ready,
+}
+
 /// Why there is no claim, with the plan and the node handed back.
 #[derive(Drop)]
 pub enum TryClaim {

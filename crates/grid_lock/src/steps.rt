@@ -7,7 +7,7 @@ ghost use Rattle.board_core.specs.Causes.{claim_of};
 ghost use Rattle.board_core.specs.Shows.{IsMadeFor};
 ghost use Rattle.grid_lock.specs.Views.{met, reading, freeing, IsSound};
 ghost use Rattle.grid_lock.specs.Hands.{IsIdle, HasBoard, HasTaken, HasAdded, GainsEntry, GainsOutcome, board_of, with_own};
-ghost use Rattle.grid_lock.specs.Answers.{AcceptsClaim, RefusesClaim, RefusesOutcome, AcceptsRelease, RefusesRelease, AcceptsStep, RefusesStep, ShowsProduct, ShowsNothing};
+ghost use Rattle.grid_lock.specs.Answers.{AcceptsClaim, RefusesClaim, RefusesOutcome, AcceptsRelease, RefusesRelease, AcceptsStep, RefusesStep, ShowsProduct, ShowsNothing, WaitsFor, HasNoProduct};
 
 use crate::plays::{Add, Count, Free, Look, OneHistory, Take};
 use crate::view::View;
@@ -104,7 +104,8 @@ pub(crate) fn claim_in_hand(
     requires core { seat.old.table_id ≡ core.now.table_id }
     requires hand { HasBoard seat.old.me seat.old.me.0.seen }
     ensures seat { (seat.new.table_id ≡ seat.old.table_id) × (seat.new.id ≡ seat.old.id) }
-    ensures gains { IfOk result (λ c. GainsEntry seat.old.me seat.new.me by (claim_of plan c.state)) }
+    ensures gains { IfOk result (λ c. GainsEntry seat.old.me seat.new.me by
+        (claim_of plan c.state)) }
     ensures accepted { IfOk result (AcceptsClaim (board_of seat.old.me) plan) }
     ensures same { IfErr result (λ r. seat.new.me ≡ seat.old.me) }
     ensures refused { IfErr result (λ r. RefusesClaim (board_of seat.old.me) plan r.why) }
@@ -175,6 +176,23 @@ pub(crate) fn step_in_hand(
 {
     let board = seat.slot_mut(core, 0);
     board.step(by, f, node)
+}
+
+/// What a product waits on, by the board in hand.
+pub(crate) fn waits_in_hand(
+    core: &Core,
+    seat: &mut PassSeat,
+    p: u32,
+) -> Result<Option<u32>, NoProduct>
+    requires core { seat.old.table_id ≡ core.now.table_id }
+    requires hand { HasBoard seat.old.me seat.old.me.0.seen }
+    ensures seat { (seat.new.table_id ≡ seat.old.table_id) × (seat.new.id ≡ seat.old.id) }
+    ensures same { seat.new.me ≡ seat.old.me }
+    ensures waits { IfOk result (WaitsFor (board_of seat.old.me) p) }
+    ensures nothing { IfErr result (λ _. HasNoProduct (board_of seat.old.me) p) }
+{
+    let board = seat.slot_mut(core, 0);
+    board.waits_on(p)
 }
 
 /// A look at the board in hand.

@@ -6,6 +6,8 @@ mod attempts;
 #[cfg(test)]
 mod board;
 #[cfg(test)]
+mod calls;
+#[cfg(test)]
 mod ends;
 #[cfg(test)]
 mod jobs;

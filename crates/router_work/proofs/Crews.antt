@@ -22,7 +22,7 @@ use Rattle.router_work.specs.declared.worker.Worker.TheVariants.{Route, Make}
 use Rattle.router_work.specs.inside.Workers.{AreWorked, HasSplit, HireMakers, IsBack, IsFirst, IsHired, IsNew, Worked, pass_of}
 
 -- a pass's own entries have its number
-own_number : (q : Known) → IsCalm q → All (λ (e : Noted). e.by ≡ q.view.number) q.view.mine
+pub own_number : (q : Known) → IsCalm q → All (λ (e : Noted). e.by ≡ q.view.number) q.view.mine
 own_number q calm =
     let n = q.view.number in
     All-same (λ (e : Noted). e.by ≡ n) q.view.mine (entries_by n q.view.seen) (sym calm.own)

@@ -1,6 +1,7 @@
 -- What a router's entries make of the history that its pass has seen.
-use Rattle.std.proofs.Common.{◌≡◌, ℕ, zero, suc, Bool, true, false, ◌||◌, if◌then◌else◌, List, [], ◌∷◌, ◌++◌, length, position, option_map, slice_get, Option, Some, None, is_some, IsSome, Result, Ok, Err, refl, sym, ap, ◌∙◌, subst, arith, eq-eqb, eqb-true}
+use Rattle.std.proofs.Common.{◌≡◌, ℕ, zero, suc, Bool, true, false, ◌||◌, if◌then◌else◌, List, [], ◌∷◌, ◌++◌, length, take, drop, position, option_map, slice_get, Option, Some, None, is_some, IsSome, Result, Ok, Err, refl, sym, ap, ◌∙◌, subst, arith, eq-eqb, eqb-true}
 use Rattle.std.proofs.lemmas.Bool.{true≢false}
+use Rattle.std.proofs.lemmas.List.{take-append-drop}
 use Rattle.std.proofs.lemmas.Option.{same_Some, none-some, slice_get-map, slice_get_within}
 use denote.RawPtr.{Ptr}
 use Rattle.pauli_product.specs.Signed.{Signed}
@@ -19,12 +20,13 @@ use Rattle.board_core.specs.declared.board.DeliverWhy.TheVariants as why
 use Rattle.board_core.specs.declared.board.ReleaseWhy.{ReleaseWhy}
 use Rattle.board_core.specs.declared.board.ReleaseWhy.TheVariants as release_why
 use Rattle.board_core.specs.History.{History, entries, is_claim_of, is_done_by, is_release_of, claim_place, done_place, release_place, delivered, delivery_in}
-use Rattle.board_core.specs.Legal.{Legal}
+use Rattle.board_core.specs.Legal.{Allowed, Legal}
+use Rattle.board_core.specs.View.{LeastWait}
 use Rattle.board_core.specs.Books.{TakesRegion}
 use Rattle.board_core.specs.Position.{Position, past, with_history, note}
 use Rattle.board_core.specs.Causes.{DeliverRefusedBecause, EntryOf, ReleaseRefusedBecause}
 use Rattle.board_core.proofs.Places.{or_else, place_cons, delivered-append}
-use Rattle.board_core.proofs.Standings.{found_at}
+use Rattle.board_core.proofs.Standings.{claims_are, found_at}
 use Rattle.board_core.proofs.LegalOrder.{at_end}
 use Rattle.grid_lock.specs.declared.view.View.{View}
 use Rattle.grid_lock.specs.declared.replies.TryDeliver.{TryDeliver}
@@ -34,7 +36,7 @@ use Rattle.grid_lock.specs.declared.replies.TryRelease.TheVariants as release
 use Rattle.grid_lock.specs.Views.{Extends}
 use Rattle.grid_lock.specs.Answers.{AcceptsOutcome, AcceptsRelease}
 use Rattle.grid_lock.specs.Replies.{Accepts, Delivers, Releases}
-use Rattle.router_work.proofs.Passings.{entries_on, some_on}
+use Rattle.router_work.proofs.Passings.{entries_on, place_stays, some_on}
 
 -- ---- entries and their places
 pub get_on : {A : Type 0} (xs ys : List A) (k : ℕ) (x : A) → slice_get xs k ≡ Some x → slice_get (xs ++ ys) k ≡ Some x
@@ -217,3 +219,22 @@ module _ (b : Position) (gs : List Given) (p : ℕ) (all : AreOutcomesOf gs b.jo
       let o = product_of_outcome b.job.products gs p given.Settled all at in
       let same : o.0 ≡ x.0.static = same_Some o.0 x.0.static (sym o.1 ∙ x.0.product) in
       x.2 (subst (λ (s : Static). IsOutcomeOf s.kind given.Settled) same o.2)
+
+-- ---- a product that waits
+-- in a legal history it has no claim: each claim is of a product that waits on none, and what is done stays done
+pub waiting_unclaimed : (b : Position) (p on : ℕ) → Legal b.job (past b) → LeastWait b.job.products (past b) p (Some on) → claim_place (past b) p ≡ None
+waiting_unclaimed b p on legal waits = go (claim_place (past b) p) refl
+  where
+    claimed : (place : ℕ) → claim_place (past b) p ≡ Some place → ⊥
+    claimed place there =
+        let w = waits.0 in
+        let at = found_at (is_claim_of p) (past b) place there in
+        let c = claims_are p at.0 at.2 in
+        let allowed : Allowed b.job (take place (past b)) (Claim p c.0 c.1 c.2 c.3) = subst (Allowed b.job (take place (past b))) c.4 (legal place at.0 at.1) in
+        let done : IsSome (done_place (take place (past b)) on) = allowed.ready on w.1 w.2 w.0 w.3 w.4 w.5 in
+        let still = place_stays (is_done_by on) (take place (past b)) (drop place (past b)) done in
+        not_both (done_place (past b) on) (subst (λ (h : History). IsSome (done_place h on)) (take-append-drop place (past b)) still) w.6
+
+    go : (o : Option ℕ) → claim_place (past b) p ≡ o → claim_place (past b) p ≡ None
+    go None is = is
+    go (Some place) is = absurd (claimed place is)

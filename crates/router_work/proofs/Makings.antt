@@ -20,7 +20,7 @@ use Rattle.grid_lock.specs.Answers.{AcceptsStep, RefusesStep}
 use Rattle.router_work.specs.Passing.{IsStepOf, Passed, seen_board}
 use Rattle.router_work.specs.Routing.{HasFactory}
 use Rattle.router_work.specs.Ends.{IsFull, TurnedMore}
-use Rattle.router_work.specs.inside.Waits.{Waited}
+use Rattle.router_work.specs.Waits.{Waited}
 use Rattle.router_work.proofs.Passings.{passed_on, passed_added, passed_found, turned_found}
 
 module _ (p q : Known) (v : View) (waited : Waited p.view v) where

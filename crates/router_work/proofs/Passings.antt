@@ -23,7 +23,7 @@ use Rattle.grid_lock.proofs.Lists.{extends_longer, all_more}
 use Rattle.router_work.specs.Passing.{Passed}
 use Rattle.router_work.specs.Tries.{IsBegun}
 use Rattle.router_work.specs.Ends.{TurnedMore}
-use Rattle.router_work.specs.inside.Waits.{Waited}
+use Rattle.router_work.specs.Waits.{Waited}
 
 -- ---- histories that extend one another
 pub extends_same : (log : List Noted) → Extends log log

@@ -1,5 +1,6 @@
 -- What the steps of a router's try add up to.
-use Rattle.std.proofs.Common.{◌≡◌, ◌⊎◌, inl, inr, ℕ, suc, ◌<◌, ◌≤◌, true, List, [], ◌∷◌, length, slice_get, Some, is_some, IsSome, Result, Ok, Err, refl, sym, ap, ◌∙◌, subst, arith}
+use Rattle.std.proofs.Common.{◌≡◌, ◌⊎◌, inl, inr, ℕ, suc, ◌<◌, ◌≤◌, true, List, [], ◌∷◌, length, slice_get, None, Some, is_some, IsSome, Result, Ok, Err, refl, sym, ap, ◌∙◌, subst, arith, length-append}
+use Rattle.std.proofs.lemmas.Option.{slice_get_within}
 use Rattle.std.proofs.lemmas.Bool.{true≢false}
 use denote.RawPtr.{Ptr}
 use Rattle.patch_base.specs.Outside.{Rose}
@@ -24,12 +25,14 @@ use Rattle.board_core.specs.declared.board.ClaimRefused.{ClaimRefused}
 use Rattle.board_core.specs.declared.board.ClaimWhy.{ClaimWhy}
 use Rattle.board_core.specs.declared.board.ClaimWhy.TheVariants as claim_why
 use Rattle.board_core.specs.History.{entries, is_claim_of, claim_place, delivered, release_place}
-use Rattle.board_core.specs.Position.{Position, past, with_history, note}
+use Rattle.board_core.specs.Position.{Position, past, with_history, note, IsLegal}
 use Rattle.board_core.specs.Causes.{DeliverRefusedBecause, EntryOf, claim_of}
 use Rattle.board_core.specs.View.{LeastWait}
 use Rattle.grid_lock.specs.declared.view.View.{View}
 use Rattle.grid_lock.specs.declared.replies.TryLook.{TryLook}
 use Rattle.grid_lock.specs.declared.replies.TryLook.TheVariants as look
+use Rattle.grid_lock.specs.declared.replies.TryWaits.{TryWaits}
+use Rattle.grid_lock.specs.declared.replies.TryWaits.TheVariants as waits
 use Rattle.grid_lock.specs.declared.replies.TryClaim.{TryClaim}
 use Rattle.grid_lock.specs.declared.replies.TryClaim.TheVariants as claim
 use Rattle.grid_lock.specs.declared.replies.TryDeliver.{TryDeliver}
@@ -38,19 +41,19 @@ use Rattle.grid_lock.specs.declared.replies.TryRelease.{TryRelease}
 use Rattle.grid_lock.specs.declared.replies.TryRelease.TheVariants as release
 use Rattle.grid_lock.specs.Views.{Extends, Continues}
 use Rattle.grid_lock.specs.Passes.{Known, IsSamePass, IsCalm}
-use Rattle.grid_lock.specs.Answers.{AcceptsClaim, AcceptsOutcome, AcceptsRelease, RefusesClaim, RefusesOutcome, RefusesRelease, ShowsProduct}
-use Rattle.grid_lock.specs.Replies.{Accepts, Finds, Looks, Claims, Delivers, Releases, Measures}
+use Rattle.grid_lock.specs.Answers.{AcceptsClaim, AcceptsOutcome, AcceptsRelease, RefusesClaim, RefusesOutcome, RefusesRelease, ShowsProduct, WaitsFor, HasNoProduct}
+use Rattle.grid_lock.specs.Replies.{Accepts, AnswersWaits, Finds, Looks, Claims, Delivers, Releases, Measures}
 use Rattle.router_work.specs.Passing.{IsRouted, Passed, seen_board}
 use Rattle.router_work.specs.Routing.{Routing, IsSameRouter, IsSetUp}
-use Rattle.router_work.specs.Tries.{Answered, ClaimsAt, IsBegun, IsCarriedOut, IsPlanned, IsSettled, LooksBetween, SettlesAt}
+use Rattle.router_work.specs.Tries.{Answered, ClaimsAt, IsBegun, IsCarriedOut, IsPlanned, IsSettled, LookedBefore, LooksBetween, SettlesAt, WaitsBetween}
 use Rattle.router_work.specs.Ends.{AttemptEnds, MetMore, TurnedMore}
 use Rattle.router_work.specs.declared.attempt.Attempt.{Attempt}
 use Rattle.router_work.specs.declared.attempt.Attempt.TheVariants as attempt
 use Rattle.router_work.specs.declared.attempt.Tried.{Tried}
 use Rattle.router_work.specs.inside.Steps.{Calls, GivesWay, Goes, IsAsked, IsOutcomeAt, IsTried, is_taken}
-use Rattle.router_work.specs.inside.Waits.{Waited}
+use Rattle.router_work.specs.Waits.{AfterWaiting, Waited}
 use Rattle.router_work.proofs.Passings.{begun_on, extends_on, extends_same, passed_added, passed_busy, passed_found, passed_measured, passed_none, passed_on, some_on, turned_added, turned_found}
-use Rattle.router_work.proofs.Histories.{accepted_there, claimed_there, delivered_after, delivered_on, get_on, has_kind, has_product, released_after, settled_after, settled_there, wants_no_claim}
+use Rattle.router_work.proofs.Histories.{accepted_there, claimed_there, delivered_after, delivered_on, get_on, has_kind, has_product, released_after, settled_after, settled_there, waiting_unclaimed, wants_no_claim}
 
 -- ---- what each call told
 abbrev pub HeardClaim : Routing → Routing → Plan → Ptr → Result Claimed TryClaim → Type 0
@@ -284,10 +287,124 @@ looks_between p q v number look waited f =
       shows = subst (λ (b : Position). ShowsProduct (with_history b q.view.seen) number look) (ap (λ (u : View). u.opened) waited.is) f.1;
     }
 
+pub looked_on : (p q r : Known) (number : ℕ) (look : Look) → Extends r.view.seen q.view.seen → LooksBetween p q number look → LooksBetween p r number look
+looked_on p q r number look x b = record { log = b.log; continues = b.continues; seen = extends_on b.log q.view.seen r.view.seen b.seen x; shows = b.shows }
+
 pub planned_on : (p q r : Known) (number : ℕ) (a : Planned) → Extends r.view.seen q.view.seen → IsPlanned p q number a → IsPlanned p r number a
-planned_on p q r number a x is =
+planned_on p q r number a x is = (is.0, looked_on p q r number is.0 x is.1, is.2)
+
+-- what was planned after a later call was planned after an earlier one
+module _ (p q t : Known) (begins : Extends q.view.seen p.view.seen) (opened : q.view.opened ≡ p.view.opened) (read : q.view.read ≡ p.view.read) where
+  continues_before : (log : List Noted) → Continues q.view log → Continues p.view log
+  continues_before log c =
+      let r = c.read in
+      record {
+        legal = subst (λ (b : Position). IsLegal (with_history b log)) opened c.legal;
+        begins = extends_on p.view.seen q.view.seen log begins c.begins;
+        read = omega arith;
+      }
+
+  looked_before : (number : ℕ) (look : Look) → LooksBetween q t number look → LooksBetween p t number look
+  looked_before number look b = record {
+    log = b.log;
+    continues = continues_before b.log b.continues;
+    seen = b.seen;
+    shows = subst (λ (x : Position). ShowsProduct (with_history x b.log) number look) opened b.shows;
+  }
+
+  planned_before : (number : ℕ) (a : Planned) → IsPlanned q t number a → IsPlanned p t number a
+  planned_before number a is =
+      let look = is.0 in
+      (look, looked_before number look is.1, subst (λ (x : Position). Answers (LeastJoined x.job.grid look) x.job.grid look a) opened is.2)
+
+  waits_before : (number on : ℕ) → WaitsBetween q t number on → WaitsBetween p t number on
+  waits_before number on w = record {
+    log = w.log;
+    continues = continues_before w.log w.continues;
+    seen = w.seen;
+    unclaimed = w.unclaimed;
+    waits = subst (λ (x : Position). WaitsFor (with_history x w.log) number (Some on)) opened w.waits;
+  }
+
+  pub answered_before : (gs : List Given) (number : ℕ) (a : Attempt) → Answered gs q number a t → Answered gs p number a t
+  answered_before gs number (attempt.Claimed place) x =
+      let l = x.2 in
+      (x.0, x.1, (l.0, looked_before number l.0 l.1, l.2))
+  answered_before gs number (attempt.Settled place) x = x
+  answered_before gs number (attempt.Taken place) (inl x) = inl x
+  answered_before gs number (attempt.Taken place) (inr x) = inr (planned_before number (planned.Taken place) x)
+  answered_before gs number (attempt.NotReady on) (inl x) = inl x
+  answered_before gs number (attempt.NotReady on) (inr x) = inr (waits_before number on x)
+  answered_before gs number attempt.NoReady x = planned_before number planned.NoReady x
+  answered_before gs number attempt.Blocked x = planned_before number planned.Blocked x
+  answered_before gs number (attempt.Refused why) x = (x.0, planned_before number (planned.Region x.0) x.1, x.2)
+  answered_before gs number attempt.Stopped x = tt
+  answered_before gs number attempt.Busy x = tt
+  answered_before gs number attempt.Memory x = tt
+
+-- a product that the planner finds waiting has no claim, and waits
+pub planned_waits : (p q : Known) (number on : ℕ) → IsPlanned p q number (planned.NotReady on) → WaitsBetween p q number on
+planned_waits p q number on is =
     let b = is.1 in
-    (is.0, record { log = b.log; continues = b.continues; seen = extends_on b.log q.view.seen r.view.seen b.seen x; shows = b.shows }, is.2)
+    let shown = b.shows.shown in
+    let there = slice_get_within p.view.opened.job.products number shown.static shown.is in
+    record {
+      log = b.log;
+      continues = b.continues;
+      seen = b.seen;
+      unclaimed = sym shown.taken ∙ is.2.0;
+      waits = subst (WaitsFor (with_history p.view.opened b.log) number) is.2.1 (there, shown.waits);
+    }
+
+-- ---- the first question
+module _ (r s : Routing) (number : ℕ) (a : TryWaits) (calls : Calls r s) (told : AfterWaiting r.pass.view (λ v. AnswersWaits v number a s.pass.view)) where
+  was_opened : told.0.opened ≡ r.pass.view.opened
+  was_opened = ap (λ (u : View). u.opened) told.1.is
+
+  pub ask_goes : Goes r s
+  ask_goes = goes_called r s calls (go a told.2)
+    where
+      go : (x : TryWaits) → AnswersWaits told.0 number x s.pass.view → Passed (IsRouted r.given) r.pass s.pass
+      go waits.Busy heard = passed_busy (IsRouted r.given) r.pass s.pass told.0 calls.same calls.calm told.1 heard
+      go waits.NoProduct heard = passed_found (IsRouted r.given) r.pass s.pass told.0 calls.same calls.calm told.1 (λ b. HasNoProduct b number) heard
+      go (waits.Waits on) heard = passed_found (IsRouted r.given) r.pass s.pass told.0 calls.same calls.calm told.1 (λ b. WaitsFor b number (Some on)) heard
+      go waits.Ready heard = passed_found (IsRouted r.given) r.pass s.pass told.0 calls.same calls.calm told.1 (λ b. WaitsFor b number None) heard
+
+  pub ask_read : s.pass.view.read ≡ r.pass.view.read
+  ask_read = go a told.2 ∙ ap (λ (u : View). u.read) told.1.is
+    where
+      go : (x : TryWaits) → AnswersWaits told.0 number x s.pass.view → s.pass.view.read ≡ told.0.read
+      go waits.Busy heard = ap (λ (u : View). u.read) heard
+      go waits.NoProduct heard = ap (λ (u : View). u.read) heard.2
+      go (waits.Waits on) heard = ap (λ (u : View). u.read) heard.2
+      go waits.Ready heard = ap (λ (u : View). u.read) heard.2
+
+  pub ask_finds : IsSetUp r → number < length r.given → a ≡ waits.NoProduct → ⊥
+  ask_finds up below is =
+      let heard = subst (λ (x : TryWaits). AnswersWaits told.0 number x s.pass.view) is told.2 in
+      let none = heard.1 in
+      let same = as_many r up in
+      let many : length told.0.opened.job.products ≡ length r.pass.view.opened.job.products = ap (λ (b : Position). length b.job.products) was_opened in
+      omega arith
+
+  pub ask_turned : (on : ℕ) → a ≡ waits.Waits on → TurnedMore 1 r.pass s.pass
+  ask_turned on is =
+      let heard = subst (λ (x : TryWaits). AnswersWaits told.0 number x s.pass.view) is told.2 in
+      turned_found (IsRouted r.given) r.pass s.pass told.0 calls.same calls.calm told.1 (λ b. WaitsFor b number (Some on)) heard
+
+  pub ask_waits : (on : ℕ) → a ≡ waits.Waits on → WaitsBetween r.pass s.pass number on
+  ask_waits on is =
+      let heard = subst (λ (x : TryWaits). AnswersWaits told.0 number x s.pass.view) is told.2 in
+      let known : Continues (record r.pass.view { met = told.0.met }) s.pass.view.seen = subst (λ (u : View). Continues u s.pass.view.seen) told.1.is heard.0 in
+      let b : Position = with_history r.pass.view.opened s.pass.view.seen in
+      let here : WaitsFor b number (Some on) = subst (λ (x : Position). WaitsFor (with_history x s.pass.view.seen) number (Some on)) was_opened heard.1 in
+      record {
+        log = s.pass.view.seen;
+        continues = record { legal = known.legal; begins = known.begins; read = known.read };
+        seen = extends_same s.pass.view.seen;
+        unclaimed = waiting_unclaimed b number on known.legal.legal here.1;
+        waits = here;
+      }
 
 -- a product that the planner finds taken is begun
 pub planned_begun : (p q : Known) (number place : ℕ) → IsPlanned p q number (planned.Taken place) → IsBegun q number
@@ -303,6 +420,9 @@ is_planned p k q v number look g a is same waited f answers = (
   looks_between p q v number look (subst (λ (x : Known). Waited x.view v) is waited) f,
   subst (λ (h : Grid). Answers (LeastJoined h look) h look a) same answers,
 )
+
+longer_than : (seen log : List Noted) → Extends log seen → length seen ≤ length log
+longer_than seen log x = let e = ap length x.1 in omega (arith, length-append seen x.0)
 
 -- ---- claims
 pub claims_at : (q : Known) (v : View) (plan : Plan) (number : ℕ) (c : Claimed) → plan.number ≡ number → Accepts v (claim_of plan c.state) (λ b. AcceptsClaim b plan c) q.view → ClaimsAt q number c.place
@@ -382,6 +502,19 @@ module _ (r s : Routing) (number : ℕ) (plan : Plan) (node : Ptr) (o : Result C
 
   pub claim_stands : (c : Claimed) → o ≡ Ok c → ClaimsAt s.pass number c.place
   claim_stands c was = claims_at s.pass told.0 plan number c is (subst (λ (y : Result Claimed TryClaim). Claims told.0 plan node y s.pass.view) was told.2)
+
+  -- the claim stands after all that the pass had seen, and so after the look
+  pub claim_later : (c : Claimed) → o ≡ Ok c → (p : Known) (t : Routing) → Goes s t → IsPlanned p r.pass number (planned.Region plan) → LookedBefore p t.pass number c.place
+  claim_later c was p t more known =
+      let a = subst (λ (y : Result Claimed TryClaim). Claims told.0 plan node y s.pass.view) was told.2 in
+      let look = known.0 in
+      let b = known.1 in
+      let seen : length told.0.seen ≡ length r.pass.view.seen = ap (λ (u : View). length u.seen) told.1.is in
+      let first = longer_than b.log r.pass.view.seen b.seen in
+      let then = longer_than told.0.seen a.0 a.1.begins in
+      let place = a.2.place in
+      let shown = b.shows.shown.length-is in
+      (look, looked_on p r.pass t.pass number look (extends_on r.pass.view.seen s.pass.view.seen t.pass.view.seen claim_goes.passed.seen more.passed.seen) b, omega arith)
 
   module _ (t : Routing) (x : ClaimRefused) (e : TryClaim) (was : o ≡ Err e) (refused : e ≡ claim.Refused x) (goes : Goes s t) where
     heard : Claims told.0 plan node (Err (claim.Refused x)) s.pass.view
@@ -468,8 +601,12 @@ module _ (r s : Routing) (number place : ℕ) (claimed : ClaimsAt r.pass number 
             let done : IsTried r number first s = record { goes = goes; hand = hand; ends = turned; begun = λ b. begun_on_the_way s goes } in
             tried_then r u w number first (tried_then r t u number first (tried_then r s t number first done goes_t hand_t) more same) goes_w (ap (λ (x : Routing). x.hand) last.0)
 
-        pub completed_answered : IsSome (delivered (past (seen_board s.pass)) number) → IsSome (release_place (past (seen_board u.pass)) number) → ClaimsAt w.pass number place × IsCarriedOut w.pass number
-        completed_answered d l =
+        pub completed_answered : (p : Known) → LookedBefore p r.pass number place → IsSome (delivered (past (seen_board s.pass)) number) → IsSome (release_place (past (seen_board u.pass)) number)
+            → ClaimsAt w.pass number place × IsCarriedOut w.pass number × LookedBefore p w.pass number place
+        completed_answered p look d l =
             let all = goes_on r u w goes_u goes_w in
-            let begins = extends_on s.pass.view.seen t.pass.view.seen u.pass.view.seen goes_t.passed.seen more.passed.seen in
-            (claims_on r.pass w.pass number place all.passed.same.2 all.passed.seen claimed, carried_out s.pass u.pass w.pass number place begins (ap (λ (x : Routing). x.pass) last.0) d l)
+            let begins = extends_on s.pass.view.seen t.pass.view.seen u.pass.view.seen goes_t.passed.seen more.passed.seen in (
+              claims_on r.pass w.pass number place all.passed.same.2 all.passed.seen claimed,
+              carried_out s.pass u.pass w.pass number place begins (ap (λ (x : Routing). x.pass) last.0) d l,
+              (look.0, looked_on p r.pass w.pass number look.0 all.passed.seen look.1, look.2),
+            )

@@ -2,7 +2,7 @@
 use Rattle.std.proofs.Common.{◌≡◌, ℕ, ◌+◌, ◌-◌, ◌≤◌, refl, ap, sym, ◌∙◌, arith}
 use Rattle.grid_lock.specs.declared.view.View.{View}
 use Rattle.grid_lock.specs.Views.{met}
-use Rattle.router_work.specs.inside.Waits.{Waited}
+use Rattle.router_work.specs.Waits.{Waited}
 
 pub waited_none : (v : View) → Waited v v
 waited_none v = record { is = refl; met = omega arith }

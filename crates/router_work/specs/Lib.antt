@@ -4,4 +4,5 @@ pub mod Routing
 pub mod Tries
 pub mod Ends
 pub mod Routes
+pub mod Waits
 pub mod inside

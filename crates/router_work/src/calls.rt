@@ -5,19 +5,19 @@ ghost use denote.RawPtr.{Ptr};
 ghost use Rattle.patch_layout.specs.declared.plan.Plan.{Plan as Plans};
 ghost use Rattle.board_core.specs.Shows.{IsMadeFor};
 ghost use Rattle.grid_lock.specs.Passes.{IsOf, IsSamePass, IsCalm};
-ghost use Rattle.grid_lock.specs.Replies.{Claims, Delivers, Releases, Steps, Looks};
-ghost use Rattle.grid_lock.specs.declared.view.View.{View};
+ghost use Rattle.grid_lock.specs.Replies.{AnswersWaits, Claims, Delivers, Releases, Steps, Looks};
 ghost use Rattle.grid_lock.specs.declared.replies.TryLook.TheVariants as looks;
+ghost use Rattle.grid_lock.specs.declared.replies.TryWaits.TheVariants as waiting;
 ghost use Rattle.grid_lock.specs.declared.replies.TryClaim.TheVariants as claims;
 ghost use Rattle.grid_lock.specs.declared.replies.TryDeliver.TheVariants as delivers;
 ghost use Rattle.grid_lock.specs.declared.replies.TryRelease.TheVariants as releases;
 ghost use Rattle.grid_lock.specs.declared.replies.TryStep.TheVariants as steps;
 ghost use Rattle.router_work.specs.Ends.{MetMore};
-ghost use Rattle.router_work.specs.inside.Waits.{Waited};
+ghost use Rattle.router_work.specs.Waits.{AfterWaiting};
 
 use board_core::{Claimed, Noted};
 use crossbeam_utils::Backoff;
-use grid_lock::{Grid, Pass, TryClaim, TryDeliver, TryLook, TryRelease, TryStep};
+use grid_lock::{Grid, Pass, TryClaim, TryDeliver, TryLook, TryRelease, TryStep, TryWaits};
 use magic_pool::Stepped;
 use node_log::Node;
 use patch_layout::{Look, Plan};
@@ -26,13 +26,37 @@ use source_model::Given;
 /// How many answers Busy in a row are enough.
 pub(crate) const BUSY: u32 = 1_048_576;
 
-/// Looks at a product.
-pub(crate) fn look(grid: &Grid, pass: &mut Pass, p: u32, look: &mut Look) -> Result<(), TryLook>
+/// Says what a product waits on.
+pub(crate) fn waits(grid: &Grid, pass: &mut Pass, p: u32) -> TryWaits
+    requires grid { IsOf grid.now pass.old }
+    ensures grid { IsOf grid.now pass.new }
+    ensures same { IsSamePass pass.old pass.new }
+    ensures told { AfterWaiting pass.old.view (λ v. AnswersWaits v p result pass.new.view) }
+    ensures busy { result ≡ waiting.Busy → MetMore 1048576 pass.old pass.new }
+    ensures rests { IsCalm pass.new }
+{
+    let backoff = Backoff::new();
+    for _turn in 0..BUSY {
+        match grid.try_waits(pass, p) {
+            TryWaits::Busy => backoff.snooze(),
+            answer => return answer,
+        }
+    }
+    TryWaits::Busy
+}
+
+/// Fills a look as `Grid::try_look` does, tried again while the turn is held.
+///
+/// # Errors
+///
+/// `NoProduct` as there; `Busy` where the turn was found held 1,048,576 times in a row.
+pub fn look(grid: &Grid, pass: &mut Pass, p: u32, look: &mut Look) -> Result<(), TryLook>
     requires grid { IsOf grid.now pass.old }
     requires made { IsMadeFor grid.now.opened look.old }
     ensures grid { IsOf grid.now pass.new }
     ensures same { IsSamePass pass.old pass.new }
-    ensures told { (v : View) × Waited pass.old.view v × Looks v p look.old result pass.new.view look.new }
+    ensures told { AfterWaiting pass.old.view
+        (λ v. Looks v p look.old result pass.new.view look.new) }
     ensures busy { result ≡ Err looks.Busy → MetMore 1048576 pass.old pass.new }
     ensures rests { IsCalm pass.new }
     ensures made { IsMadeFor grid.now.opened look.new }
@@ -48,8 +72,12 @@ pub(crate) fn look(grid: &Grid, pass: &mut Pass, p: u32, look: &mut Look) -> Res
     Err(TryLook::Busy)
 }
 
-/// Claims a product's region.
-pub(crate) fn claim(
+/// Claims a product's region as `Grid::try_claim` does, tried again while the turn is held.
+///
+/// # Errors
+///
+/// `Refused` as there; `Busy` where the turn was found held 1,048,576 times in a row. Both give the plan and the node back.
+pub fn claim(
     grid: &Grid,
     pass: &mut Pass,
     plan: Plan,
@@ -58,8 +86,9 @@ pub(crate) fn claim(
     requires grid { IsOf grid.now pass.old }
     ensures grid { IsOf grid.now pass.new }
     ensures same { IsSamePass pass.old pass.new }
-    ensures told { (v : View) × Waited pass.old.view v × Claims v plan node result pass.new.view }
-    ensures busy { (p : Plans) (n : Ptr) → result ≡ Err (claims.Busy p n) → MetMore 1048576 pass.old pass.new }
+    ensures told { AfterWaiting pass.old.view (λ v. Claims v plan node result pass.new.view) }
+    ensures busy { (p : Plans) (n : Ptr) → result ≡ Err (claims.Busy p n)
+        → MetMore 1048576 pass.old pass.new }
     ensures rests { IsCalm pass.new }
 {
     let backoff = Backoff::new();
@@ -84,8 +113,13 @@ pub(crate) fn claim(
     Err(TryClaim::Busy { plan, node })
 }
 
-/// Delivers an outcome, or settles.
-pub(crate) fn deliver(
+/// Delivers the outcome of a claimed product, or settles a settled one, as `Grid::try_deliver` does, tried again while
+/// the turn is held.
+///
+/// # Errors
+///
+/// `Refused` as there; `Busy` where the turn was found held 1,048,576 times in a row. Both give the node back.
+pub fn deliver(
     grid: &Grid,
     pass: &mut Pass,
     p: u32,
@@ -95,7 +129,7 @@ pub(crate) fn deliver(
     requires grid { IsOf grid.now pass.old }
     ensures grid { IsOf grid.now pass.new }
     ensures same { IsSamePass pass.old pass.new }
-    ensures told { (v : View) × Waited pass.old.view v × Delivers v p given node result pass.new.view }
+    ensures told { AfterWaiting pass.old.view (λ v. Delivers v p given node result pass.new.view) }
     ensures busy { (n : Ptr) → result ≡ Err (delivers.Busy n) → MetMore 1048576 pass.old pass.new }
     ensures rests { IsCalm pass.new }
 {
@@ -114,17 +148,16 @@ pub(crate) fn deliver(
     Err(TryDeliver::Busy { node })
 }
 
-/// Releases a product.
-pub(crate) fn release(
-    grid: &Grid,
-    pass: &mut Pass,
-    p: u32,
-    node: Node<Noted>,
-) -> Result<u32, TryRelease>
+/// Releases a delivered product as `Grid::try_release` does, tried again while the turn is held.
+///
+/// # Errors
+///
+/// `Refused` as there; `Busy` where the turn was found held 1,048,576 times in a row. Both give the node back.
+pub fn release(grid: &Grid, pass: &mut Pass, p: u32, node: Node<Noted>) -> Result<u32, TryRelease>
     requires grid { IsOf grid.now pass.old }
     ensures grid { IsOf grid.now pass.new }
     ensures same { IsSamePass pass.old pass.new }
-    ensures told { (v : View) × Waited pass.old.view v × Releases v p node result pass.new.view }
+    ensures told { AfterWaiting pass.old.view (λ v. Releases v p node result pass.new.view) }
     ensures busy { (n : Ptr) → result ≡ Err (releases.Busy n) → MetMore 1048576 pass.old pass.new }
     ensures rests { IsCalm pass.new }
 {
@@ -153,7 +186,7 @@ pub(crate) fn step(
     requires grid { IsOf grid.now pass.old }
     ensures grid { IsOf grid.now pass.new }
     ensures same { IsSamePass pass.old pass.new }
-    ensures told { (v : View) × Waited pass.old.view v × Steps v factory node result pass.new.view }
+    ensures told { AfterWaiting pass.old.view (λ v. Steps v factory node result pass.new.view) }
     ensures busy { (n : Ptr) → result ≡ Err (steps.Busy n) → MetMore 1048576 pass.old pass.new }
     ensures rests { IsCalm pass.new }
 {

@@ -45,7 +45,8 @@ pub(crate) fn hire_routers<'a, G: Gate>(
     requires look_each { length looks.items ≡ length gates.items }
     requires empty { workers.items ≡ [] }
     requires room { length gates.items ≤ vec_capacity workers }
-    ensures hired { All (IsHired grid.entry.now outcomes.entry.now.given (length gates.items)) result.items }
+    ensures hired { All (IsHired grid.entry.now outcomes.entry.now.given (length gates.items))
+        result.items }
     ensures count { length result.items ≡ length gates.items }
     ensures capacity { vec_capacity result ≡ vec_capacity workers.entry }
     ensures first { HasSplit first.old (length gates.items) first.new }
@@ -116,7 +117,8 @@ pub(crate) fn bring_back<R: Threads + Sync, G: Gate>(
     requires some { 0 < length workers.items }
     requires empty { passes.items ≡ [] }
     requires room { length workers.items ≤ vec_capacity passes }
-    ensures { (ended : List _) × AreWorked workers.entry.items ended × (result.items ≡ map pass_of ended) }
+    ensures { (ended : List _) × AreWorked workers.entry.items ended
+        × (result.items ≡ map pass_of ended) }
 {
     let mut workers = workers;
     work_all(rt, workers.as_mut_slice());

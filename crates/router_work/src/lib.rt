@@ -11,6 +11,7 @@ mod routing;
 mod worker;
 
 pub use attempt::Attempt;
+pub use calls::{claim, deliver, look, release};
 pub use gate::{Gate, NoGate, Onward, Point, StopAt};
 pub use maker::{Maker, MakerEnd};
 pub use router::{Router, RouterEnd};

@@ -8,8 +8,8 @@ ghost use denote.RawPtr.{Ptr};
 ghost use Rattle.patch_layout.specs.declared.plan.Plan.{Plan as Plans};
 ghost use Rattle.grid_lock.specs.Passes.{Known, IsCalm};
 ghost use Rattle.grid_lock.specs.Passes as grids;
-ghost use Rattle.grid_lock.specs.Replies.{Claims, Delivers, Measures, Releases};
-ghost use Rattle.grid_lock.specs.declared.view.View.{View};
+ghost use Rattle.grid_lock.specs.Replies.{AnswersWaits, Claims, Delivers, Measures, Releases};
+ghost use Rattle.grid_lock.specs.declared.replies.TryWaits.TheVariants as waiting;
 ghost use Rattle.grid_lock.specs.declared.replies.TryClaim.TheVariants as claims;
 ghost use Rattle.grid_lock.specs.declared.replies.TryDeliver.TheVariants as delivers;
 ghost use Rattle.grid_lock.specs.declared.replies.TryRelease.TheVariants as releases;
@@ -20,22 +20,22 @@ ghost use Rattle.board_core.specs.History.{claim_place, delivered, release_place
 ghost use Rattle.board_core.specs.Position.{past};
 ghost use Rattle.router_work.specs.Passing.{IsRouted, Passed, seen_board};
 ghost use Rattle.router_work.specs.Routing.{IsSameRouter, IsSetUp};
-ghost use Rattle.router_work.specs.Tries.{Answered, ClaimsAt, IsBegun, IsPlanned, IsSettled};
+ghost use Rattle.router_work.specs.Tries.{Answered, ClaimsAt, IsBegun, IsPlanned, IsSettled, LookedBefore};
 ghost use Rattle.router_work.specs.Ends.{AttemptEnds, LosesNone, MetMore, RouterEnds, TurnedMore};
 ghost use Rattle.router_work.specs.inside.Steps.{Calls, Goes, GivesWay, HoldsOn, IsAsked, IsCutShort, IsOutcomeAt, IsTried, end_of};
-ghost use Rattle.router_work.specs.inside.Waits.{Waited};
+ghost use Rattle.router_work.specs.Waits.{AfterWaiting};
 ghost use Rattle.region_plan.specs.declared.answer.Planned.TheVariants as planneds;
 
 use crate::attempt::{Attempt, Tried};
-use crate::calls::{claim, deliver, look, release};
+use crate::calls::{claim, deliver, look, release, waits};
 use crate::gate::{Gate, Onward, Point};
 use board_core::{ClaimWhy, Claimed, DeliverWhy, Noted};
-use grid_lock::{Grid, Pass, TryClaim, TryDeliver, TryLook, TryRelease};
+use grid_lock::{Grid, Pass, TryClaim, TryDeliver, TryLook, TryRelease, TryWaits};
 use node_log::Node;
 use number_share::{Hand, Share};
 use outcome_table::Outcomes;
 use patch_layout::{Layout, Look, Plan};
-use region_plan::{Planned, plan};
+use region_plan::{KeepingPlanner, Planned, Planner};
 use source_model::Given;
 use std::alloc::Global;
 use std::marker::Model;
@@ -58,8 +58,8 @@ pub enum RouterEnd {
     Memory,
 }
 
-/// A worker that takes products' numbers and carries the products out: it looks, plans a region outside the turn, claims,
-/// delivers and releases.
+/// A worker that takes products' numbers and carries the products out: it asks what a product waits on, looks, plans a region
+/// outside the turn, claims, delivers and releases. Its planner keeps walks from plan to plan.
 #[derive(Drop)]
 pub struct Router<'a, G: Gate> {
     alloc: Global,
@@ -70,6 +70,7 @@ pub struct Router<'a, G: Gate> {
     share: &'a Share,
     outcomes: &'a Outcomes,
     look: Look,
+    planner: KeepingPlanner,
     gate: G,
 }
 
@@ -80,9 +81,12 @@ impl<'a, G: Gate> Model for Router<'a, G> {
 
     ghost Value = { Routing };
 
-    ghost view = { λ r. routing r.grid.now r.share.now r.outcomes.now.given r.pass r.hand (G.stops r.gate) };
+    ghost view = { λ r. routing r.grid.now r.share.now r.outcomes.now.given r.pass r.hand
+        (G.stops r.gate) };
 
-    ghost invariant = { λ r. IsSetUp (routing r.grid.now r.share.now r.outcomes.now.given r.pass r.hand (G.stops r.gate)) × (r.layout.now ≡ r.grid.now.opened.job.grid) × IsMadeFor r.grid.now.opened r.look };
+    ghost invariant = { λ r.
+        IsSetUp (routing r.grid.now r.share.now r.outcomes.now.given r.pass r.hand (G.stops r.gate))
+        × (r.layout.now ≡ r.grid.now.opened.job.grid) × IsMadeFor r.grid.now.opened r.look };
 }
 
 impl<'a, G: Gate> Router<'a, G> {
@@ -121,6 +125,7 @@ impl<'a, G: Gate> Router<'a, G> {
             share,
             outcomes,
             look,
+            planner: KeepingPlanner::new(alloc),
             gate,
         }
     }
@@ -135,8 +140,8 @@ impl<'a, G: Gate> Router<'a, G> {
     }
 
     /// One try to carry out a product whose number the hand took: a look, a plan and a claim, and then the delivery of its
-    /// outcome and the release. A settled product is settled, without look and plan. Stopped, busy or out of memory after the
-    /// claim, the product stays claimed.
+    /// outcome and the release. A product that waits is asked for alone, and neither looked at nor planned. A settled product
+    /// is settled, without look and plan. Stopped, busy or out of memory after the claim, the product stays claimed.
     pub fn attempt(&mut self, number: u32) -> Attempt
         requires taken { Contains self.old.hand.held number }
         requires below { number < length self.old.given }
@@ -188,8 +193,10 @@ impl<'a, G: Gate> Router<'a, G> {
     // Takes a number.
     fn take(&mut self) -> Option<u32>
         ensures hand { self.new ≡ record self.old { hand = self.new.hand } }
-        ensures taken { IfSome result (λ n. (n < length self.old.given) × (self.new.hand.held ≡ self.old.hand.held ++ n ∷ [])) }
-        ensures none { IfNone result (IsSpent self.new.hand × (self.new.hand.left ≡ []) × (self.new.hand.held ≡ self.old.hand.held)) }
+        ensures taken { IfSome result (λ n. (n < length self.old.given)
+            × (self.new.hand.held ≡ self.old.hand.held ++ n ∷ [])) }
+        ensures none { IfNone result (IsSpent self.new.hand × (self.new.hand.left ≡ [])
+            × (self.new.hand.held ≡ self.old.hand.held)) }
     {
         self.hand.take(self.share)
     }
@@ -246,7 +253,8 @@ impl<'a, G: Gate> Router<'a, G> {
     fn carry(&mut self, number: u32) -> Tried
         requires below { number < length self.old.given }
         ensures tried { IsTried self.old number result self.new }
-        ensures answered { Answered self.old.given self.old.pass number result.answer self.new.pass }
+        ensures answered { Answered self.old.given self.old.pass number result.answer
+            self.new.pass }
     {
         match self.outcome(number) {
             Given::Settled => self.settle(number),
@@ -266,7 +274,8 @@ impl<'a, G: Gate> Router<'a, G> {
     fn settle(&mut self, number: u32) -> Tried
         requires settled { IsSettled self.old.given number }
         ensures tried { IsTried self.old number result self.new }
-        ensures answered { Answered self.old.given self.old.pass number result.answer self.new.pass }
+        ensures answered { Answered self.old.given self.old.pass number result.answer
+            self.new.pass }
     {
         self.rests();
         let Ok(node) = Node::empty(self.alloc) else {
@@ -308,11 +317,47 @@ impl<'a, G: Gate> Router<'a, G> {
         }
     }
 
-    // Looks and plans, and claims by the region.
+    // Asks first what the product waits on, before a look copies anything.
     fn serve(&mut self, number: u32, given: Given) -> Tried
         requires outcome { IsOutcomeAt self.old number given }
         ensures tried { IsTried self.old number result self.new }
-        ensures answered { Answered self.old.given self.old.pass number result.answer self.new.pass }
+        ensures answered { Answered self.old.given self.old.pass number result.answer
+            self.new.pass }
+    {
+        match self.held_back(number) {
+            Some(answer) => Tried {
+                answer,
+                begun: false,
+            },
+            None => self.serve_next(number, given),
+        }
+    }
+
+    // The answer where the product waits on an earlier one, or the turn was held all along.
+    fn held_back(&mut self, number: u32) -> Option<Attempt>
+        requires below { number < length self.old.given }
+        ensures goes { Goes self.old self.new }
+        ensures hand { self.new.hand ≡ self.old.hand }
+        ensures read { self.new.pass.view.read ≡ self.old.pass.view.read }
+        ensures ends { IfSome result (λ a. AttemptEnds self.old a self.new) }
+        ensures answered { IfSome result
+            (λ a. Answered self.old.given self.old.pass number a self.new.pass) }
+    {
+        self.rests();
+        match self.ask(number) {
+            TryWaits::Ready => None,
+            TryWaits::Waits { on } => Some(Attempt::NotReady { on }),
+            TryWaits::Busy => Some(Attempt::Busy),
+            TryWaits::NoProduct => unreachable!(),
+        }
+    }
+
+    // Looks and plans, and claims by the region.
+    fn serve_next(&mut self, number: u32, given: Given) -> Tried
+        requires outcome { IsOutcomeAt self.old number given }
+        ensures tried { IsTried self.old number result self.new }
+        ensures answered { Answered self.old.given self.old.pass number result.answer
+            self.new.pass }
     {
         let planned = match self.plan_region(number) {
             Ok(planned) => planned,
@@ -368,7 +413,7 @@ impl<'a, G: Gate> Router<'a, G> {
         if says_stop(&mut self.gate, looked) {
             return Err(Attempt::Stopped);
         }
-        let planned = plan(self.alloc, self.layout, &self.look);
+        let planned = self.planner.plan(self.alloc, self.layout, &self.look);
         let told = Point::Planned {
             product: number,
             region: is_region(&planned),
@@ -384,7 +429,8 @@ impl<'a, G: Gate> Router<'a, G> {
         requires outcome { IsOutcomeAt self.old number given }
         requires number { plan.number ≡ number }
         ensures tried { IsTried self.old number result self.new }
-        ensures answered { (p : Known) → IsPlanned p self.old.pass number (planneds.Region plan) → Answered self.old.given p number result.answer self.new.pass }
+        ensures answered { (p : Known) → IsPlanned p self.old.pass number (planneds.Region plan)
+            → Answered self.old.given p number result.answer self.new.pass }
     {
         self.rests();
         let (Ok(claiming), Ok(delivering), Ok(releasing)) = (
@@ -469,7 +515,8 @@ impl<'a, G: Gate> Router<'a, G> {
         requires outcome { IsOutcomeAt self.old number given }
         requires claimed { ClaimsAt self.old.pass number place }
         ensures tried { IsTried self.old number result self.new }
-        ensures answered { (p : Known) → Answered self.old.given p number result.answer self.new.pass }
+        ensures answered { (p : Known) → LookedBefore p self.old.pass number place
+            → Answered self.old.given p number result.answer self.new.pass }
     {
         if !self.delivers(number, given, delivering) {
             return Tried {
@@ -508,7 +555,8 @@ impl<'a, G: Gate> Router<'a, G> {
         ensures goes { Goes self.old self.new }
         ensures hand { self.new.hand ≡ self.old.hand }
         ensures turned { result ≡ true → TurnedMore 1 self.old.pass self.new.pass }
-        ensures delivered { result ≡ true → IsSome (delivered (past (seen_board self.new.pass)) number) }
+        ensures delivered { result ≡ true → IsSome
+            (delivered (past (seen_board self.new.pass)) number) }
         ensures held { result ≡ false → MetMore 1048576 self.old.pass self.new.pass }
     {
         self.rests();
@@ -525,7 +573,8 @@ impl<'a, G: Gate> Router<'a, G> {
         requires delivered { IsSome (delivered (past (seen_board self.old.pass)) number) }
         ensures goes { Goes self.old self.new }
         ensures hand { self.new.hand ≡ self.old.hand }
-        ensures released { result ≡ true → IsSome (release_place (past (seen_board self.new.pass)) number) }
+        ensures released { result ≡ true → IsSome
+            (release_place (past (seen_board self.new.pass)) number) }
         ensures held { result ≡ false → MetMore 1048576 self.old.pass self.new.pass }
     {
         self.rests();
@@ -544,11 +593,23 @@ impl<'a, G: Gate> Router<'a, G> {
         self.grid.length(&mut self.pass)
     }
 
+    // What a product waits on.
+    fn ask(&mut self, number: u32) -> TryWaits
+        ensures calls { Calls self.old self.new }
+        ensures told { AfterWaiting self.old.pass.view
+            (λ v. AnswersWaits v number result self.new.pass.view) }
+        ensures busy { result ≡ waiting.Busy → MetMore 1048576 self.old.pass self.new.pass }
+    {
+        waits(self.grid, &mut self.pass, number)
+    }
+
     // Claims by a plan.
     fn claim_by(&mut self, plan: Plan, node: Node<Noted>) -> Result<Claimed, TryClaim>
         ensures calls { Calls self.old self.new }
-        ensures told { (v : View) × Waited self.old.pass.view v × Claims v plan node result self.new.pass.view }
-        ensures busy { (p : Plans) (n : Ptr) → result ≡ Err (claims.Busy p n) → MetMore 1048576 self.old.pass self.new.pass }
+        ensures told { AfterWaiting self.old.pass.view
+            (λ v. Claims v plan node result self.new.pass.view) }
+        ensures busy { (p : Plans) (n : Ptr) → result ≡ Err (claims.Busy p n)
+            → MetMore 1048576 self.old.pass self.new.pass }
     {
         claim(self.grid, &mut self.pass, plan, node)
     }
@@ -561,8 +622,10 @@ impl<'a, G: Gate> Router<'a, G> {
         node: Node<Noted>,
     ) -> Result<u32, TryDeliver>
         ensures calls { Calls self.old self.new }
-        ensures told { (v : View) × Waited self.old.pass.view v × Delivers v number given node result self.new.pass.view }
-        ensures busy { (n : Ptr) → result ≡ Err (delivers.Busy n) → MetMore 1048576 self.old.pass self.new.pass }
+        ensures told { AfterWaiting self.old.pass.view
+            (λ v. Delivers v number given node result self.new.pass.view) }
+        ensures busy { (n : Ptr) → result ≡ Err (delivers.Busy n)
+            → MetMore 1048576 self.old.pass self.new.pass }
     {
         deliver(self.grid, &mut self.pass, number, given, node)
     }
@@ -570,8 +633,10 @@ impl<'a, G: Gate> Router<'a, G> {
     // Releases a product.
     fn release_product(&mut self, number: u32, node: Node<Noted>) -> Result<u32, TryRelease>
         ensures calls { Calls self.old self.new }
-        ensures told { (v : View) × Waited self.old.pass.view v × Releases v number node result self.new.pass.view }
-        ensures busy { (n : Ptr) → result ≡ Err (releases.Busy n) → MetMore 1048576 self.old.pass self.new.pass }
+        ensures told { AfterWaiting self.old.pass.view
+            (λ v. Releases v number node result self.new.pass.view) }
+        ensures busy { (n : Ptr) → result ≡ Err (releases.Busy n)
+            → MetMore 1048576 self.old.pass self.new.pass }
     {
         release(self.grid, &mut self.pass, number, node)
     }

@@ -50,7 +50,8 @@ pub fn route_all<R: Threads + Sync, G: Gate>(
     requires gates { length gates.items ≡ k }
     requires numbers { All (λ (n : Entries). n.by ≡ 0) board.history }
     requires outcomes { AreOutcomesOf outcomes.now.given board.job.products }
-    ensures routed { MatchResult result (Routes outcomes.now.given k board) (λ r. Routes outcomes.now.given k board r.board) }
+    ensures routed { MatchResult result (Routes outcomes.now.given k board)
+        (λ r. Routes outcomes.now.given k board r.board) }
 {
     let qubits = qubits_of(&board);
     let Ok(layout) = board.layout().copy(alloc) else {
@@ -115,7 +116,8 @@ fn bring<R: Threads + Sync, G: Gate>(
     requires few { qubits ≤ 1024 }
     requires outcomes { AreOutcomesOf outcomes.now.given grid.now.opened.job.products }
     requires gates { (0 < length gates.items) × (length gates.items ≤ ROUTERS) }
-    ensures back { IfOk result (λ v. All (IsBack grid.now outcomes.now.given (length gates.items)) v.items) }
+    ensures back { IfOk result
+        (λ v. All (IsBack grid.now outcomes.now.given (length gates.items)) v.items) }
     ensures all { IfOk result (λ v. HasSplit first.old (length v.items) first.new) }
     ensures none { IfErr result (λ _. first.new ≡ first.old) }
 {

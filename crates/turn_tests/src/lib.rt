@@ -15,3 +15,5 @@ mod stale;
 mod threads;
 #[cfg(test)]
 mod tries;
+#[cfg(test)]
+mod waiting;

@@ -1,7 +1,7 @@
 -- The turn was held each time so far, and nothing else was learned.
 use Rattle.std.proofs.Common.{◌≡◌, ◌+◌, ◌<◌, ◌≤◌}
 use Rattle.grid_lock.specs.Passes.{IsOf, IsSamePass, IsCalm}
-use Rattle.router_work.specs.inside.Waits.{Waited}
+use Rattle.router_work.specs.Waits.{Waited}
 use Rattle.router_work.proofs.calls.deliver.Given as goal
 
 abbrev pub invariant-loop-turn : goal.invariant-loop-turn

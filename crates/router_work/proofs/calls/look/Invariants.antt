@@ -2,7 +2,7 @@
 use Rattle.std.proofs.Common.{◌≡◌, ◌+◌, ◌<◌, ◌≤◌}
 use Rattle.board_core.specs.Shows.{IsMadeFor}
 use Rattle.grid_lock.specs.Passes.{IsOf, IsSamePass, IsCalm}
-use Rattle.router_work.specs.inside.Waits.{Waited}
+use Rattle.router_work.specs.Waits.{Waited}
 use Rattle.router_work.proofs.calls.look.Given as goal
 
 abbrev pub invariant-loop-turn : goal.invariant-loop-turn

@@ -41,8 +41,8 @@ returns-clause-tried g c =
     c.is_stopped-2.new.self c.is_stopped-2.ensures.asked (d.turned c.if-not-delivers.false)
 
 pub returns-clause-answered : goal.returns-clause-answered
-returns-clause-answered g c = λ p.
+returns-clause-answered g c = λ p look.
     let d = c.delivers.ensures in
     let l = c.releases.ensures in
     completed_answered c.args.self.now c.delivers.new.self c.args.number c.args.place c.requires.claimed d.goes d.hand c.is_stopped.new.self c.is_stopped.ensures.asked c.releases.new.self l.goes l.hand
-    c.is_stopped-2.new.self c.is_stopped-2.ensures.asked (d.delivered c.if-not-delivers.false) (l.released c.if-not-releases.false)
+    c.is_stopped-2.new.self c.is_stopped-2.ensures.asked p look (d.delivered c.if-not-delivers.false) (l.released c.if-not-releases.false)

@@ -1,30 +1,19 @@
--- What was planned is carried out, or is the answer.
+-- A product that waits on none is looked at and planned.
 use Rattle.std.proofs.Common.{List, subst}
 use Rattle.source_model.specs.declared.Given.{Given}
-use Rattle.region_plan.specs.declared.answer.Planned.{Planned}
-use Rattle.router_work.specs.Tries.{Answered, IsPlanned}
-use Rattle.router_work.proofs.Tryings.{planned_begun, tried_on}
+use Rattle.router_work.specs.Tries.{Answered}
+use Rattle.router_work.proofs.Tryings.{answered_before, tried_on}
 use Rattle.router_work.proofs.router.Router.serve.Goals as goal
 
-pub returns-in-Region-clause-tried : goal.returns-in-Region-clause-tried
-returns-in-Region-clause-tried g c =
-    let plan = c.plan_region.ensures in
-    tried_on c.args.self.now c.plan_region.new.self c.take_region.new.self c.args.number c.take_region.result plan.goes plan.hand c.take_region.ensures.tried
+pub returns-in-None-clause-tried : goal.returns-in-None-clause-tried
+returns-in-None-clause-tried g c =
+    let first = c.held_back.ensures in
+    tried_on c.args.self.now c.held_back.new.self c.serve_next.new.self c.args.number c.serve_next.result first.goes first.hand c.serve_next.ensures.tried
 
-pub returns-in-Region-clause-answered : goal.returns-in-Region-clause-answered
-returns-in-Region-clause-answered g c =
+pub returns-in-None-clause-answered : goal.returns-in-None-clause-answered
+returns-in-None-clause-answered g c =
     let r = c.args.self.now in
-    let known = subst (λ (a : Planned). IsPlanned r.pass c.plan_region.new.self.pass c.args.number a) c.in-Region.is c.in-Ok.ensures.planned in
-    subst (λ (gs : List Given). Answered gs r.pass c.args.number c.take_region.result.answer c.take_region.new.self.pass) c.plan_region.ensures.goes.same.given (c.take_region.ensures.answered r.pass known)
-
-pub returns-in-Taken-clause-tried : goal.returns-in-Taken-clause-tried
-returns-in-Taken-clause-tried g c =
-    let r = c.args.self.now in
-    let plan = c.plan_region.ensures in
-    let known = subst (λ (a : Planned). IsPlanned r.pass c.plan_region.new.self.pass c.args.number a) c.in-Taken.is c.in-Ok.ensures.planned in
-    record {
-      goes = plan.goes;
-      hand = plan.hand;
-      ends = c.in-Ok.ensures.turned;
-      begun = λ b. planned_begun r.pass c.plan_region.new.self.pass c.args.number c.in-Taken.place known;
-    }
+    let s = c.held_back.new.self in
+    let first = c.held_back.ensures in
+    answered_before r.pass s.pass c.serve_next.new.self.pass first.goes.passed.seen first.goes.passed.same.1 first.read r.given c.args.number c.serve_next.result.answer
+    (subst (λ (gs : List Given). Answered gs s.pass c.args.number c.serve_next.result.answer c.serve_next.new.self.pass) first.goes.same.given c.serve_next.ensures.answered)

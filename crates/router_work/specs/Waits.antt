@@ -6,3 +6,7 @@ use Rattle.grid_lock.specs.declared.view.View.{View}
 pub record Waited (v w : View) : Type 0 where
   pub is : w ≡ record v { met = w.met }
   pub met : v.met ≤ w.met
+
+-- this was told to a pass that had waited, any number of times
+abbrev pub AfterWaiting : View → (View → Type 0) → Type 0
+AfterWaiting u Told = (v : View) × Waited u v × Told v
