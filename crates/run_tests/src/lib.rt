@@ -14,3 +14,9 @@ mod refusals;
 mod rows;
 #[cfg(test)]
 mod shelf;
+#[cfg(test)]
+mod sides;
+#[cfg(test)]
+mod stops;
+#[cfg(test)]
+mod texts;

@@ -83,8 +83,8 @@ impl Shelf for JobShelf<'_> {
     }
 }
 
-// Copies up to 7 bytes of a text from a place on, and says how many.
-fn copy_from(text: &[u8], at: u64, into: &mut [u8]) -> usize
+/// Copies up to 7 bytes of a text from a place on, and says how many.
+pub(crate) fn copy_from(text: &[u8], at: u64, into: &mut [u8]) -> usize
     requires { at < 2 ^ 32 }
     ensures { result ≤ length into.new }
 {

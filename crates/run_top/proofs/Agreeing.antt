@@ -1,5 +1,5 @@
 -- A table with which all deliveries agree is the one that a board is completed for.
-use Rattle.std.proofs.Common.{◌≡◌, ℕ, zero, suc, ◌+◌, List, [], ◌∷◌, Option, Some, None, slice_get, drop, refl, ap, ap₂, sym, ◌∙◌, subst, arith, add-zero, add-one}
+use Rattle.std.proofs.Common.{◌≡◌, ℕ, suc, ◌+◌, List, [], ◌∷◌, Option, Some, None, slice_get, refl, ap, ap₂, sym, ◌∙◌, arith, add-zero}
 use Rattle.std.specs.Prelude.{unwrap_or}
 use Rattle.source_model.specs.declared.Given.{Given}
 use Rattle.board_core.specs.History.{History, delivered}

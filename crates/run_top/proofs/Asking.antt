@@ -11,6 +11,7 @@ use Rattle.run_top.specs.Told.{EndsBy, IsOutside, RefusesJob}
 
 pub by_job : (P : Fault → Type 0) (j : Reading) → ((g : JobFault) → TellsUpTo j g → job_faults.Refuses j g → P (fault.Job g)) → (f : Fault) → RefusesJob j f → P f
 by_job P j at (fault.Job g) (told, refused) = at g told refused
+by_job P j at (fault.Program i g) h = absurd h
 by_job P j at fault.Unwritten h = absurd h
 by_job P j at fault.Memory h = absurd h
 

@@ -1,7 +1,6 @@
 -- From a board on which routers worked to the schedule of its job.
-use Rattle.std.proofs.Common.{◌≡◌, ℕ, ◌≤◌, List, [], ◌∷◌, ◌++◌, All, refl, ap, sym, ◌∙◌, subst, arith}
+use Rattle.std.proofs.Common.{◌≡◌, ◌≤◌, List, [], ◌∷◌, ◌++◌, All, ap, sym, ◌∙◌, subst, arith}
 use Rattle.std.proofs.lemmas.List.Elements.{All-nil, All-cons, All-append}
-use Rattle.source_model.specs.declared.Given.{Given}
 use Rattle.outcome_table.specs.declared.Outcomes.{Outcomes}
 use Rattle.region_plan.specs.Answer.{LeastJoined}
 use Rattle.board_core.specs.declared.Noted.{Noted}

@@ -1,10 +1,11 @@
 -- From what a part of a command says to how the command ends.
-use Rattle.std.proofs.Common.{◌≡◌, ◌⊎◌, inl, inr, ℕ, List, ◌++◌, Result, Ok, Err, refl, ap, sym, ◌∙◌, subst}
+use Rattle.std.proofs.Common.{◌≡◌, ℕ, List, ◌++◌, Result, Ok, Err, refl, sym, subst}
 use Rattle.std.specs.Prelude.{IsErrAnd}
 use Rattle.source_model.specs.declared.Circuit.{Circuit}
 use Rattle.source_model.specs.declared.Given.{Given}
 use Rattle.board_core.specs.Position.{Position}
 use Rattle.fault_lines.specs.Sinks.{Writing}
+use Rattle.side_by_side.specs.Laws.{ClaimsAreThoseAlone, RegistersAreThoseAlone}
 use Rattle.board_write.specs.declared.fault.WriteFault.{WriteFault}
 use Rattle.board_write.specs.declared.fault.WriteFault.TheVariants as write
 use Rattle.board_write.specs.Boards.{IsComplete, WritesText, bits_shown, schedule_of}
@@ -16,14 +17,16 @@ use Rattle.job_read.specs.Jobs.{StandsForJob}
 use Rattle.job_read.specs.Kept.{IsJob}
 use Rattle.job_read.specs.Made.{IsBigJob}
 use Rattle.job_read.specs.Shelves.{Shelved, job_on}
-use Rattle.tool_words.specs.Commands.{Run, run, bits, big}
+use Rattle.tool_words.specs.Commands.{Run, run, bits, big, side}
 use Rattle.run_top.specs.declared.fault.Fault.{Fault}
 use Rattle.run_top.specs.declared.fault.Fault.TheVariants as fault
 use Rattle.run_top.specs.Big.{heading, summary}
-use Rattle.run_top.specs.Carried.{IsCarriedOut}
+use Rattle.run_top.specs.Carried.{IsCarriedOut, IsRunSchedule}
 use Rattle.run_top.specs.Ends.{Ends, Outputs}
 use Rattle.run_top.specs.Faults.{fault_of_write}
 use Rattle.run_top.specs.Told.{IsDone, IsOutside}
+use Rattle.run_top.specs.inside.Reads.{IsSideJob}
+use Rattle.run_top.proofs.Alone.{side_schedule}
 use Rattle.run_top.proofs.Carrying.{complete_for, run_schedule}
 
 -- what the command writes, and how far the output took it
@@ -67,6 +70,14 @@ big_attempt r w n k job before circuit b did made kept head same done writes = (
   of_job (λ (d : Circuit). WritesText w (heading n job.products ++ bits_shown d job.outcomes.given) did) job circuit b kept same done
       (λ x. subst (λ (t : List ℕ). WritesText w (t ++ bits_shown circuit job.outcomes.given) did) head (writes job.outcomes.given x)),
 )
+
+pub side_attempt : (r : Shelved) (w : Writing) (l : List ℕ) (k : ℕ) (names : List (List ℕ)) (job : Job) (circuit : Circuit) (b : Position) (did : Result (Unit {0}) WriteFault) → CompleteBoardsAreSchedules → ClaimsAreThoseAlone → RegistersAreThoseAlone → IsSideJob r l names job → circuit ≡ job.circuit → IsCarriedOut job b → ((table : List Given) → IsComplete circuit b table → WritesText w (schedule_of circuit table b.history) did) → Attempt r w (side l k names) did
+side_attempt r w l k names job circuit b did law claims registers x same done writes =
+    let text = schedule_of job.circuit job.outcomes.given b.history in (
+      text,
+      (x.sides, x.stand, side_schedule claims registers x.sides text x.programs x.stand.all (subst (λ (j : Job). IsRunSchedule j text) x.is (run_schedule law job b x.kept done))),
+      of_job (λ (d : Circuit). WritesText w (schedule_of d job.outcomes.given b.history) did) job circuit b x.kept same done (writes job.outcomes.given),
+    )
 
 -- ---- errors of known kinds
 pub done_job : (end : Result (Unit {0}) Fault) (f : JobFault) → IsErrAnd end (λ e. e ≡ fault.Job f) → job_faults.IsOutside f → IsDone end

@@ -1,5 +1,14 @@
 mod Agreeing
 mod Carrying
+mod Alone
 mod Ending
 mod Asking
 mod Routed
+mod Lists
+mod Shifts
+mod Bare
+mod Steps
+mod SideJob
+mod Once
+mod Refusals
+mod SideRead

@@ -5,9 +5,8 @@ use Rattle.std.proofs.lemmas.List.Elements.{All-get_or}
 use Rattle.std.proofs.lemmas.Option.{get_or_from_slice_get, none-some, same_Some, slice_get-map, slice_get_within}
 use Rattle.source_model.specs.declared.Given.{Given}
 use Rattle.board_core.specs.declared.Noted.{Noted}
-use Rattle.board_core.specs.declared.Entry.{Entry}
-use Rattle.board_core.specs.declared.Entry.TheVariants.{Claim, Deliver, Release, Step, Settle}
-use Rattle.board_core.specs.History.{entries, delivered}
+use Rattle.board_core.specs.declared.Entry.TheVariants.{Deliver, Step}
+use Rattle.board_core.specs.History.{entries}
 use Rattle.board_core.specs.Laws.{Agrees, DeliveriesStand}
 use Rattle.board_core.specs.Position.{Position, with_history}
 use Rattle.router_work.specs.Passing.{IsRouted}

@@ -1,5 +1,5 @@
 -- How each command ends: what it writes, or why it writes nothing.
-use Rattle.std.specs.Prelude.{◌≡◌, ◌⊎◌, ℕ, List, codes, Result, Ok, Err}
+use Rattle.std.specs.Prelude.{◌≡◌, ℕ, List, codes, Result, Ok, Err}
 use Rattle.fault_lines.specs.Sinks.{Writing, Untouched, Took, TookPart, Said}
 use Rattle.board_write.specs.Boards.{bits_shown}
 use Rattle.job_read.specs.declared.fault.JobFault.{JobFault}
@@ -12,6 +12,9 @@ use Rattle.run_top.specs.declared.fault.Fault.TheVariants as fault
 use Rattle.run_top.specs.Faults.{status_of, fault_line}
 use Rattle.run_top.specs.Carried.{IsRunSchedule}
 use Rattle.run_top.specs.Big.{OnBig, summary}
+use Rattle.run_top.specs.Sides.{Sides, StandForSides}
+use Rattle.run_top.specs.SideFaults.{StopsAtSides}
+use Rattle.run_top.specs.Alone.{IsSideSchedule}
 
 -- ---- what is written
 
@@ -20,7 +23,7 @@ abbrev pub Outputs : Shelved → Run → List ℕ → Type 0
 Outputs r (run c l o k) text = OnJob r c l o (λ job. IsRunSchedule job text)
 Outputs r (bits c l o k) text = OnJob r c l o (λ job. text ≡ bits_shown job.circuit job.outcomes.given)
 Outputs r (big n k) text = OnBig n (λ job. text ≡ summary n job)
-Outputs r (side l k names) text = ⊥
+Outputs r (side l k names) text = (s : Sides) × StandForSides r l names s × IsSideSchedule s text
 
 -- ---- why nothing is written
 
@@ -29,11 +32,17 @@ abbrev pub StopsAtJob : Shelved → Run → JobFault → Type 0
 StopsAtJob r (run c l o k) f = Because (job_on r c l o) f
 StopsAtJob r (bits c l o k) f = Because (job_on r c l o) f
 StopsAtJob r (big n k) f = BigStops n f
-StopsAtJob r (side l k names) f = ⊥
+StopsAtJob r (side l k names) f = StopsAtSides r l names (fault.Job f)
+
+-- a text of one of several programs can't be read, or is refused
+abbrev pub StopsAtProgram : Shelved → Run → ℕ → JobFault → Type 0
+StopsAtProgram r (side l k names) i f = StopsAtSides r l names (fault.Program i f)
+StopsAtProgram r _ i f = ⊥
 
 -- the cause of each fault that comes before all writing; out of memory has none
 abbrev pub Stops : Shelved → Run → Fault → Type 0
 Stops r t (fault.Job f) = StopsAtJob r t f
+Stops r t (fault.Program i f) = StopsAtProgram r t i f
 Stops r t fault.Unwritten = ⊥
 Stops r t fault.Memory = Unit {0}
 
@@ -54,16 +63,9 @@ abbrev pub SaysWhy : Writing → Run → Result (Unit {0}) Fault → Type 0
 SaysWhy e t (Ok done) = Untouched e
 SaysWhy e t (Err f) = Said e (fault_line t f)
 
--- the commands that are built, with numbers in range
-abbrev pub IsBuilt : Run → Type 0
-IsBuilt (run c l o k) = IsRun (run c l o k)
-IsBuilt (bits c l o k) = IsRun (bits c l o k)
-IsBuilt (big n k) = IsRun (big n k)
-IsBuilt (side l k names) = ⊥
-
 -- the words aren't those of a command: status 2, and nothing is written but the line
 pub record RefusesWords (words : List (List ℕ)) (w e : Writing) (status : ℕ) : Type 0 where
-  pub unlisted : (t : Run) → IsBuilt t → words ≡ run_words t → ⊥
+  pub unlisted : (t : Run) → IsRun t → words ≡ run_words t → ⊥
   pub ended : status ≡ 2
   pub silent : Untouched w
   pub said : Said e (codes "words\n")
@@ -71,7 +73,7 @@ pub record RefusesWords (words : List (List ℕ)) (w e : Writing) (status : ℕ)
 -- the words are those of a command, which was carried out as far as its end
 pub record CarriesOut (words : List (List ℕ)) (r : Shelved) (w e : Writing) (status : ℕ) : Type 0 where
   pub command : Run
-  pub built : IsBuilt command
+  pub ranged : IsRun command
   pub listed : words ≡ run_words command
   pub end : Result (Unit {0}) Fault
   pub ends : Ends r w command end

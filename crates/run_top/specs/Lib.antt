@@ -1,5 +1,9 @@
+pub mod Sides
 pub mod Faults
 pub mod Carried
+pub mod Alone
 pub mod Big
+pub mod SideFaults
 pub mod Ends
 pub mod Told
+pub mod inside

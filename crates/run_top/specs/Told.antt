@@ -1,5 +1,5 @@
 -- What told texts bring: where all are accepted, and where one is refused.
-use Rattle.std.specs.Prelude.{◌≡◌, ◌⊎◌, ℕ, ◌≤◌, MatchResult, Result, Ok, Err}
+use Rattle.std.specs.Prelude.{◌≡◌, ◌⊎◌, ℕ, ◌≤◌, List, MatchResult, Result, Ok, Err}
 use Rattle.fault_lines.specs.Sinks.{Writing, Said}
 use Rattle.job_read.specs.declared.Job.{Job}
 use Rattle.job_read.specs.Reading.{Reading}
@@ -11,10 +11,13 @@ use Rattle.run_top.specs.declared.fault.Fault.{Fault}
 use Rattle.run_top.specs.declared.fault.Fault.TheVariants as fault
 use Rattle.run_top.specs.Faults.{status_of, fault_line}
 use Rattle.run_top.specs.Big.{OnBig}
+use Rattle.run_top.specs.Sides.{Sides, StandForSides}
+use Rattle.run_top.specs.SideFaults.{StopsAtSides, TellAllSides, TellSides}
 
 -- the shelf or the output failed, or memory ran out
 abbrev pub IsOutside : Fault → Type 0
 IsOutside (fault.Job f) = job_faults.IsOutside f
+IsOutside (fault.Program i f) = job_faults.IsOutside f
 IsOutside fault.Unwritten = Unit {0}
 IsOutside fault.Memory = Unit {0}
 
@@ -29,7 +32,7 @@ abbrev pub Accepts : Shelved → Run → Type 0
 Accepts r (run c l o k) = AcceptsJob (job_on r c l o)
 Accepts r (bits c l o k) = AcceptsJob (job_on r c l o)
 Accepts r (big n k) = OnBig n (λ job. Unit {0})
-Accepts r (side l k names) = ⊥
+Accepts r (side l k names) = (s : Sides) × TellAllSides r l names × StandForSides r l names s
 
 -- all was done, or the outside is the cause that it wasn't
 abbrev pub IsDone : Result (Unit {0}) Fault → Type 0
@@ -43,12 +46,16 @@ abbrev pub RefusesJob : Reading → Fault → Type 0
 RefusesJob j (fault.Job f) = TellsUpTo j f × job_faults.Refuses j f
 RefusesJob j _ = ⊥
 
+-- a text of programs side by side, or their joined circuit
+abbrev pub RefusesSides : Shelved → List ℕ → List (List ℕ) → Fault → Type 0
+RefusesSides r l names f = TellSides r l names f × StopsAtSides r l names f × (IsOutside f → ⊥)
+
 -- a text that the command reads is told and refused with this fault, and all before it are told and accepted
 abbrev pub Refuses : Shelved → Run → Fault → Type 0
 Refuses r (run c l o k) f = RefusesJob (job_on r c l o) f
 Refuses r (bits c l o k) f = RefusesJob (job_on r c l o) f
 Refuses r (big n k) f = ⊥
-Refuses r (side l k names) f = ⊥
+Refuses r (side l k names) f = RefusesSides r l names f
 
 -- it ended with this fault, or with one of the outside
 abbrev pub EndsBy : {A : Type 0} → Fault → Result A Fault → Type 0

@@ -5,12 +5,15 @@ ghost use Rattle.std.specs.Prelude.{◌≡◌};
 use board_write::WriteFault;
 use job_read::JobFault;
 use patch_base::Memory;
+use std::alloc::AllocFailed;
 
 /// Why a command ends before all of its output is written.
 #[derive(Clone, Copy, Debug, PartialEq, Eq)]
 pub enum Fault {
     /// The circuit, the layout or the outcomes can't be read, or are refused.
     Job(JobFault),
+    /// The same of the circuit or the outcomes of one of several programs.
+    Program { program: u32, fault: JobFault },
     /// The output failed.
     Unwritten,
     /// Out of memory.
@@ -49,6 +52,17 @@ impl From<Memory> for Fault {
     ghost from_gives = { λ _ e. e ≡ fault.Memory };
 
     fn from(_memory: Memory) -> Fault {
+        Fault::Memory
+    }
+}
+
+impl<T: Drop> From<AllocFailed<T>> for Fault {
+    ghost use Rattle.std.specs.Prelude.{◌≡◌};
+    ghost use Rattle.run_top.specs.declared.fault.Fault.TheVariants as fault;
+
+    ghost from_gives = { λ _ e. e ≡ fault.Memory };
+
+    fn from(_refused: AllocFailed<T>) -> Fault {
         Fault::Memory
     }
 }

@@ -4,9 +4,12 @@
 mod big;
 mod carry;
 mod fault;
+mod names;
 mod route;
 mod run;
 mod saying;
+mod side;
+mod sides;
 mod top;
 
 pub use fault::Fault;

@@ -40,11 +40,18 @@ pub fn run<T: Threads + Sync, S: Shelf, O: Sink>(
     ensures out_counts { O.faults out.old ≤ O.faults out.new }
     ensures ends { let r = shelved S.tells S.faults shelf.old shelf.new in
         let w = writing O.taken O.faults out.old out.new in
-        Ends r w (words.run asked.entry.circuit.now asked.entry.layout.now asked.entry.outcomes.now asked.entry.k) result }
+        Ends r w
+        (words.run asked.entry.circuit.now asked.entry.layout.now asked.entry.outcomes.now
+        asked.entry.k) result }
     ensures complete { let r = shelved S.tells S.faults shelf.old shelf.new in
-        Accepts r (words.run asked.entry.circuit.now asked.entry.layout.now asked.entry.outcomes.now asked.entry.k) → IsDone result }
+        Accepts r
+        (words.run asked.entry.circuit.now asked.entry.layout.now asked.entry.outcomes.now
+        asked.entry.k) → IsDone result }
     ensures refuses { let r = shelved S.tells S.faults shelf.old shelf.new in
-        (f : Fault_of) → Refuses r (words.run asked.entry.circuit.now asked.entry.layout.now asked.entry.outcomes.now asked.entry.k) f → EndsBy f result }
+        (f : Fault_of)
+        → Refuses r
+        (words.run asked.entry.circuit.now asked.entry.layout.now asked.entry.outcomes.now
+        asked.entry.k) f → EndsBy f result }
 {
     law_complete_boards();
     let job = read_job(alloc, shelf, asked.circuit, asked.layout, asked.outcomes)?;
@@ -67,11 +74,18 @@ pub fn run_bits<T: Threads + Sync, S: Shelf, O: Sink>(
     ensures out_counts { O.faults out.old ≤ O.faults out.new }
     ensures ends { let r = shelved S.tells S.faults shelf.old shelf.new in
         let w = writing O.taken O.faults out.old out.new in
-        Ends r w (words.bits asked.entry.circuit.now asked.entry.layout.now asked.entry.outcomes.now asked.entry.k) result }
+        Ends r w
+        (words.bits asked.entry.circuit.now asked.entry.layout.now asked.entry.outcomes.now
+        asked.entry.k) result }
     ensures complete { let r = shelved S.tells S.faults shelf.old shelf.new in
-        Accepts r (words.bits asked.entry.circuit.now asked.entry.layout.now asked.entry.outcomes.now asked.entry.k) → IsDone result }
+        Accepts r
+        (words.bits asked.entry.circuit.now asked.entry.layout.now asked.entry.outcomes.now
+        asked.entry.k) → IsDone result }
     ensures refuses { let r = shelved S.tells S.faults shelf.old shelf.new in
-        (f : Fault_of) → Refuses r (words.bits asked.entry.circuit.now asked.entry.layout.now asked.entry.outcomes.now asked.entry.k) f → EndsBy f result }
+        (f : Fault_of)
+        → Refuses r
+        (words.bits asked.entry.circuit.now asked.entry.layout.now asked.entry.outcomes.now
+        asked.entry.k) f → EndsBy f result }
 {
     let job = read_job(alloc, shelf, asked.circuit, asked.layout, asked.outcomes)?;
     let done = carry_out(rt, alloc, job, asked.k)?;

@@ -1,4 +1,4 @@
-use Rattle.std.proofs.Common.{List, [], ◌++◌, ap, sym, ◌∙◌, subst}
+use Rattle.std.proofs.Common.{List, ap, sym, subst}
 use Rattle.board_core.specs.declared.Noted.{Noted}
 use Rattle.board_core.specs.History.{entries}
 use Rattle.board_core.specs.Laws.{Agrees}

@@ -1,0 +1,20 @@
+pub mod Padding
+pub mod Beside
+pub mod Counting
+pub mod Appending
+pub mod Fitting
+pub mod Together
+pub mod StaticsBeside
+pub mod Shares
+pub mod Commuting
+pub mod JoinedItems
+pub mod JoinedCircuit
+pub mod Registers
+pub mod Letters
+pub mod Summing
+pub mod Copying
+pub mod Telling
+pub mod Sharing
+pub mod Drafting
+pub mod Laws
+mod Example

@@ -1,0 +1,5 @@
+pub mod Places
+pub mod Joined
+pub mod Programs
+pub mod Laws
+pub mod inside

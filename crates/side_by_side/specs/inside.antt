@@ -1,0 +1,4 @@
+pub mod Beside
+pub mod Cut
+pub mod Drafts
+pub mod Told
