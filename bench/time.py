@@ -3,7 +3,7 @@
 
 usage: time.py [--best N] [KIND..]
 
-Builds nothing: run `rt run` in crates/patchtool and crates/patchrun first. KIND is a kind of job of jobs.py; without
+Builds nothing: run `rt run` in crates/patchtool, crates/patchrun and crates/patchlive first. KIND is a kind of job of jobs.py; without
 one, `gates`, `wide`, `qubits` and `measurements` are timed. Each command runs N times (3), and its least processor seconds are
 printed. A command of a program that isn't built is left out, and one that ends with another status than 0 is named with it."""
 
@@ -27,6 +27,8 @@ COMMANDS = [
     ("patchrun", "run", [*JOB, "1"]),
     ("patchrun", "run", [*JOB, "2"]),
     ("patchrun", "run", [*JOB, "4"]),
+    ("patchlive", "live", [*JOB, "1"]),
+    ("patchlive", "live", [*JOB, "4"]),
 ]
 
 
@@ -59,7 +61,7 @@ def main(words):
                     with open(f"{folder}/{'schedule' if command == 'serial' else 'other'}", "wb") as file:
                         runs.append(measure(path, [command, *files], folder, file if command == "serial" else None))
                 status, seconds, written, memory = min(runs, key=lambda it: (it[0], it[1]))
-                name = f"{command} {files[-1]}" if command == "run" else command
+                name = f"{command} {files[-1]}" if command in ("run", "live") else command
                 said = "" if status == 0 else f"  status {status}"
                 print(f"{kind:14}{name:12}{seconds:9.2f}{written:13,}{memory:7.0f}{said}", flush=True)
 

@@ -1,0 +1,9 @@
+pub mod Inboxes
+pub mod Feeds
+pub mod Gathers
+pub mod Lines
+pub mod Finds
+pub mod Reasons
+pub mod Receives
+pub mod Relays
+pub mod Words

@@ -1,0 +1,5 @@
+pub mod Line
+pub mod Made
+pub mod Messages
+pub mod Strays
+pub mod inside

@@ -1,0 +1,11 @@
+mod Lists
+mod Passings
+mod Handings
+mod Crews
+mod Closings
+mod Routed
+mod Agreeing
+mod Carrying
+mod Ending
+mod Asking
+mod Naming

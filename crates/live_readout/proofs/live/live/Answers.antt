@@ -1,0 +1,51 @@
+use Rattle.std.proofs.Common.{Ok, Err}
+use Rattle.live_readout.specs.Commands.{command}
+use Rattle.fault_lines.specs.Sinks.{writing}
+use Rattle.job_read.specs.Shelves.{shelved}
+use Rattle.live_readout.specs.declared.fault.LiveFault.{LiveFault}
+use Rattle.live_readout.specs.Ends.{EndsBy}
+use Rattle.live_readout.proofs.Asking.{by_job, ends_by}
+use Rattle.live_readout.proofs.Ending.{live_attempt, done_job, done_write, stopped_ends}
+use Rattle.live_readout.proofs.live.live.Goals as goal
+
+pub returns-clause-ends : goal.returns-clause-ends
+returns-clause-ends g c =
+    live_attempt
+    (shelved g.S.Shelf.tells g.S.Shelf.faults c.args.shelf.now c.read_job.new.shelf)
+    (writing g.O.Sink.taken g.O.Sink.faults c.args.out.now c.write_board.new.out)
+    (command c.args.command.circuit.now c.args.command.layout.now c.args.command.outcomes.now c.args.command.k) c.in_ok-job.job c.in_ok-done.done.circuit c.in_ok-done.done.board (Ok tt)
+    c.law_complete_boards.ensures c.in_ok-job.ensures.accepted c.in_ok-job.ensures.kept c.in_ok-done.ensures.circuit c.in_ok-done.ensures.board c.in_ok-write_board.ensures.written
+
+pub returns-in_err-write_board-clause-ends : goal.returns-in_err-write_board-clause-ends
+returns-in_err-write_board-clause-ends g c =
+    let r = shelved g.S.Shelf.tells g.S.Shelf.faults c.args.shelf.now c.read_job.new.shelf in
+    let w = writing g.O.Sink.taken g.O.Sink.faults c.args.out.now c.write_board.new.out in
+    let f = c.in_err-write_board.field-0.0 in
+    stopped_ends r w (command c.args.command.circuit.now c.args.command.layout.now c.args.command.outcomes.now c.args.command.k) f c.from_residual-in_err-write_board.result c.from_residual-in_err-write_board.ensures.1
+    (live_attempt r w (command c.args.command.circuit.now c.args.command.layout.now c.args.command.outcomes.now c.args.command.k) c.in_ok-job.job c.in_ok-done.done.circuit c.in_ok-done.done.board (Err f)
+    c.law_complete_boards.ensures c.in_ok-job.ensures.accepted c.in_ok-job.ensures.kept c.in_ok-done.ensures.circuit c.in_ok-done.ensures.board c.in_err-write_board.ensures.written)
+
+pub returns-in_err-job-clause-complete : goal.returns-in_err-job-clause-complete
+returns-in_err-job-clause-complete g c = λ a.
+    done_job c.from_residual.result c.in_err-job.field-0.0 c.from_residual.ensures.1 (c.in_err-job.ensures.exact a.0 a.1 a.2)
+
+pub returns-in_err-write_board-clause-complete : goal.returns-in_err-write_board-clause-complete
+returns-in_err-write_board-clause-complete g c = λ a.
+    done_write c.from_residual-in_err-write_board.result c.in_err-write_board.field-0.0 c.from_residual-in_err-write_board.ensures.1
+
+pub returns-in_err-job-clause-refuses : goal.returns-in_err-job-clause-refuses
+returns-in_err-job-clause-refuses g c = λ f x.
+    let end = c.from_residual.result in
+    by_job (λ (h : LiveFault). EndsBy h end) (shelved g.S.Shelf.tells g.S.Shelf.faults c.args.shelf.now c.read_job.new.shelf) (command c.args.command.circuit.now c.args.command.layout.now c.args.command.outcomes.now c.args.command.k)
+    (λ h told refused. ends_by c.in_err-job.field-0.0 h end c.from_residual.ensures.1 (c.in_err-job.ensures.faults h told refused))
+    f x
+
+pub returns-clause-refuses : goal.returns-clause-refuses
+returns-clause-refuses g c = λ f x.
+    absurd (by_job (λ (h : LiveFault). ⊥) (shelved g.S.Shelf.tells g.S.Shelf.faults c.args.shelf.now c.read_job.new.shelf) (command c.args.command.circuit.now c.args.command.layout.now c.args.command.outcomes.now c.args.command.k)
+    c.in_ok-job.ensures.faults f x)
+
+pub returns-in_err-write_board-clause-refuses : goal.returns-in_err-write_board-clause-refuses
+returns-in_err-write_board-clause-refuses g c = λ f x.
+    absurd (by_job (λ (h : LiveFault). ⊥) (shelved g.S.Shelf.tells g.S.Shelf.faults c.args.shelf.now c.read_job.new.shelf) (command c.args.command.circuit.now c.args.command.layout.now c.args.command.outcomes.now c.args.command.k)
+    c.in_ok-job.ensures.faults f x)

@@ -1,0 +1,9 @@
+pub mod Listed
+pub mod Wanted
+pub mod Entries
+pub mod Routes
+pub mod Commands
+pub mod Faults
+pub mod Carried
+pub mod Ends
+pub mod inside
