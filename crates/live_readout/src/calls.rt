@@ -9,11 +9,20 @@ ghost use Rattle.live_readout.specs.Entries.{IsTaking};
 ghost use Rattle.live_readout.specs.inside.Workers.{IsReleaseOf};
 
 use board_core::{Claimed, Noted};
-use grid_lock::{Grid, Pass, TryClaim, TryDeliver, TryLook, TryRelease};
+use grid_lock::{Grid, Pass, TryClaim, TryDeliver, TryLook, TryRelease, TryWaits};
 use node_log::Node;
 use patch_layout::{Look, Plan};
 use router_work::{claim, deliver, look, release};
 use source_model::Given;
+
+/// Whether a product waits on an earlier one. Where another pass holds the turn, that isn't known yet, and the answer is no.
+pub(crate) fn is_held_back(grid: &Grid, pass: &mut Pass, p: u32) -> bool
+    requires grid { IsOf grid.now pass.old }
+    ensures { Passed IsTaking pass.old pass.new }
+{
+    let waits = grid.try_waits(pass, p);
+    matches!(waits, TryWaits::Waits { .. })
+}
 
 /// Looks at a product.
 pub(crate) fn look_at(grid: &Grid, pass: &mut Pass, p: u32, shown: &mut Look) -> Result<(), TryLook>

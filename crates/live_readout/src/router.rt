@@ -9,7 +9,7 @@ ghost use Rattle.router_work.specs.Passing.{Passed};
 ghost use Rattle.live_readout.specs.Entries.{IsTaking};
 ghost use Rattle.live_readout.specs.inside.Shared.{IsShared};
 
-use crate::calls::{claim_by, look_at, settle};
+use crate::calls::{claim_by, is_held_back, look_at, settle};
 use board_core::{ClaimWhy, DeliverWhy};
 use crossbeam_utils::Backoff;
 use grid_lock::{Grid, Pass, TryClaim, TryDeliver, TryLook};
@@ -195,6 +195,29 @@ fn try_number<G: Gate>(
     }
     if let Kind::Settle { .. } = shared.kinds[number as usize] {
         return settle_number(shared, pass, gate, number);
+    }
+    claim_next(shared, pass, look, gate, number)
+}
+
+// Claims a product's region, unless the product waits on an earlier one: then it isn't looked at.
+fn claim_next<G: Gate>(
+    shared: &Shared<'_>,
+    pass: &mut Pass,
+    look: &mut Look,
+    gate: &mut G,
+    number: u32,
+) -> Tried
+    requires shared { IsShared shared.now }
+    requires pass { IsOf shared.now.grid.now pass.old }
+    requires look { IsMadeFor shared.now.grid.now.opened look.old }
+    ensures passed { Passed IsTaking pass.old pass.new }
+    ensures look { IsMadeFor shared.now.grid.now.opened look.new }
+{
+    if is_held_back(shared.grid, pass, number) {
+        return Tried {
+            begun: false,
+            ends: false,
+        };
     }
     claim_number(shared, pass, look, gate, number)
 }
