@@ -1,7 +1,7 @@
 -- Lists of truth values in words.
 use Rattle.std.proofs.Common.{◌≡◌, ◌≢◌, ℕ, zero, suc, ◌+◌, ◌-◌, ◌*◌, ◌/◌, ◌%◌, ◌^◌, ◌==◌, ◌<◌, ◌≤◌, min, Bool, true, false, inl, inr, List, ◌∷◌, length, get_or, set, replicate, refl, ap, ap₂, subst, nat_lt, sym, ◌∙◌, arith, ext_get_or, zero-add, get_or-set_same, get_or-set_other, eqb-true, eq-eqb, ne_eqb}
 use Rattle.std.proofs.lemmas.List.{length-set, get_or_default}
-use Rattle.std.proofs.lemmas.Bool.{ltb-true, ltb-false}
+use Rattle.std.proofs.lemmas.Bool.{ltb-true, ltb-false, true≢false}
 use Rattle.std.proofs.lemmas.Bool.{cases_Bool, eqb-false}
 use Rattle.std.proofs.lemmas.Nat.{and_le_l}
 use Rattle.std.specs.Int.{bit_at, bit_not, trailing_zeros}
@@ -96,6 +96,12 @@ bits_set words n i h room =
 pub record BitOpen (here there : List ℕ) (j : ℕ) : Type 0 where
   pub set : bit_of here j ≡ true
   pub undone : bit_of there j ≡ false
+
+-- what is set in the list isn't open
+pub set_closed : (here there : List ℕ) (n : ℕ) (done : List Bool) → bits_from there 0 n ≡ done → (j : ℕ) → j < n → get_or done j false ≡ true → BitOpen here there j → ⊥
+set_closed here there n done e j within set o =
+    let is : bit_of there j ≡ true = ap (bit_of there) (sym (zero-add j)) ∙ sym (bit_get there 0 n j false within) ∙ ap (λ (bs : List Bool). get_or bs j false) e ∙ set in
+    true≢false (sym is ∙ o.undone)
 
 -- a bit of x and not y
 both : (x y i : ℕ) → y < 2 ^ 64 → i < 64 → bit_at (bit_and x (bit_not w64 y)) i ≡ min (bit_at x i) (1 - bit_at y i)

@@ -20,3 +20,8 @@ pub record Holds (n : ℕ) (words : List ℕ) : Type 0 where
 pub record IsOpen (row done : List Bool) (j : ℕ) : Type 0 where
   pub set : slice_index_or row j false ≡ true
   pub undone : slice_index_or done j false ≡ false
+
+-- the first ones, so many, are set
+pub record IsSetTo (n : ℕ) (bits : List Bool) : Type 0 where
+  pub within : n ≤ length bits
+  pub set : (j : ℕ) → j < n → slice_index_or bits j false ≡ true

@@ -2,7 +2,7 @@
 
 ghost use Rattle.std.specs.Prelude.{◌≡◌, ℕ, ◌<◌, ◌≤◌, true, false, length, replicate, slice_set, slice_index, slice_index_or, bit_xor, IfOk, MatchOption};
 ghost use Rattle.pauli_product.specs.Corrections.{xor};
-ghost use Rattle.commute_order.specs.Words.{IsOpen};
+ghost use Rattle.commute_order.specs.Words.{IsOpen, IsSetTo};
 
 use patch_base::Memory;
 use std::alloc::Global;
@@ -62,15 +62,29 @@ impl Bits {
         flip_words(&mut self.words, &other.words);
     }
 
-    // The least number below `below` that is set here and not there.
-    pub fn first_open(&self, done: &Bits, below: u32) -> Option<u32>
+    // The first number from one on that isn't set, or the length. Those before it are set.
+    pub fn first_unset(&self, from: u32) -> u32
+        requires { IsSetTo from self.now }
+        ensures { IsSetTo result self.now }
+    {
+        for at in from..self.len {
+            if !self.has(at) {
+                return at;
+            }
+        }
+        self.len
+    }
+
+    // The least number below `below` that is set here and not there, where all before `from` are set there.
+    pub fn first_open(&self, done: &Bits, from: u32, below: u32) -> Option<u32>
         requires here { below ≤ length self.now }
         requires there { length self.now ≤ length done.now }
+        requires from { IsSetTo from done.now }
         ensures { MatchOption result ((j : ℕ) → j < below → IsOpen self.now done.now j →
             ⊥) (λ j. (j < below) × IsOpen self.now done.now j × ((k : ℕ) → k < j →
             IsOpen self.now done.now k → ⊥)) }
     {
-        for k in 0..self.len.div_ceil(64) {
+        for k in from / 64..self.len.div_ceil(64) {
             let open = self.words[k as usize] & !done.words[k as usize];
             if open != 0 {
                 let j = 64 * u64::from(k) + u64::from(open.trailing_zeros());

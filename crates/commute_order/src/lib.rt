@@ -87,7 +87,7 @@ impl Order {
         ensures { (ps : List Signed) (us : List Uses) → IsOrder ps us self.now →
             LeastWait ps us done.now p result }
     {
-        self.rows[p as usize].first_open(&done.bits, p)
+        self.rows[p as usize].first_open(&done.bits, done.first, p)
     }
 }
 
@@ -95,6 +95,8 @@ impl Order {
 #[derive(Drop)]
 pub struct DoneSet {
     bits: Bits,
+    // The products before this one are done.
+    first: u32,
 }
 
 impl Model for DoneSet {
@@ -102,7 +104,11 @@ impl Model for DoneSet {
 
     ghost Value = { List Bool };
 
+    ghost use Rattle.commute_order.specs.Words.{IsSetTo};
+
     ghost view = { λ d. d.bits };
+
+    ghost invariant = { λ d. IsSetTo d.first d.bits };
 }
 
 impl DoneSet {
@@ -112,6 +118,7 @@ impl DoneSet {
     {
         Ok(DoneSet {
             bits: Bits::new(alloc, n)?,
+            first: 0,
         })
     }
 
@@ -121,6 +128,7 @@ impl DoneSet {
         ensures { self.new ≡ slice_set self.old p true }
     {
         self.bits.set(p);
+        self.first = self.bits.first_unset(self.first);
     }
 
     /// Whether a product is done.

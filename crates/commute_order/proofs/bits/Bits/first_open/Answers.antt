@@ -4,7 +4,7 @@ use lib.Bits.{bit_and}
 use mir.Syntax.{w64}
 use Rattle.std.proofs.lemmas.Bool.{cases_Bool, ltb-true, ltb-false}
 use Rattle.commute_order.specs.Words.{IsOpen}
-use Rattle.commute_order.proofs.BitLists.{length_bits, read_at, none_left, found, past, word_closed}
+use Rattle.commute_order.proofs.BitLists.{length_bits, read_at, none_left, found, past, set_closed, word_closed}
 use Rattle.commute_order.proofs.bits.Bits.first_open.Goals as goal
 
 pub index-requires-in-loop-k : goal.index-requires-in-loop-k
@@ -18,6 +18,15 @@ index-requires-in-loop-k c =
       c.self.inside.words.ok.0,
       c.done.inside.words.ok.0,
     )
+
+pub loop-k-init : goal.loop-k-init
+loop-k-init c = λ j h o.
+    let there = c.done.inside.words.items in
+    let n = c.done.inside.len in
+    let within : j < c.args.from = omega arith in
+    let all = c.requires.from.within in
+    let long : length c.args.done.now ≡ n = sym (ap length c.done.view_is) ∙ length_bits there 0 n in
+    set_closed c.self.inside.words.items there n c.args.done.now c.done.view_is j (omega arith) (c.requires.from.set j within) o
 
 pub returns-then-j-from : goal.returns-then-j-from
 returns-then-j-from c =
