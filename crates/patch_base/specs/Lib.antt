@@ -4,4 +4,5 @@ pub mod MemoryShelf
 pub mod MemorySink
 pub mod Names
 pub mod Outside
+pub mod Passes
 pub mod Texts

@@ -1,5 +1,5 @@
 //! What all crates of the runtime share: shelves of texts and sinks of bytes, each with a count of
-//! its faults; lines, words, decimals and names of texts; and the limits.
+//! its faults; a pen before a sink; lines, words, decimals and names of texts; and the limits.
 #![tactic(auto)]
 
 mod calls;
@@ -10,6 +10,7 @@ mod memory_sink;
 mod name;
 mod need;
 mod outside;
+mod pen;
 #[cfg(test)]
 mod tests;
 mod text;
@@ -25,5 +26,6 @@ pub use memory_sink::MemorySink;
 pub use name::is_name;
 pub use need::{Need, Used};
 pub use outside::{Failed, Memory, ReadFault, Shelf, Sink};
+pub use pen::Pen;
 pub use text::{Line, Words, bit, decimal, is_skipped, next_line, put_decimal};
 pub use transfer::{read_text, write_all};

@@ -56,7 +56,13 @@ impl Model for MemoryShelf {
 impl MemoryShelf {
     /// A shelf without texts, and without a limit on the bytes that one call gives.
     pub fn new(alloc: Global) -> MemoryShelf
-        ensures { result ≡ record { books = []; absent_faults = 0; next_call = Some 0; failing = []; most = 2 ^ 64 - 1 } }
+        ensures { result ≡ record {
+          books = [];
+          absent_faults = 0;
+          next_call = Some 0;
+          failing = [];
+          most = 2 ^ 64 - 1;
+        } }
     {
         MemoryShelf {
             alloc,
@@ -73,7 +79,11 @@ impl MemoryShelf {
     pub fn add(&mut self, name: &str, bytes: &[u8]) -> Result<(), Memory>
         requires { text_of self.old.books name.now ≡ None }
         ensures added { OnOk result (self.new ≡ record self.old {
-          books = self.old.books ++ record { name = name.now; bytes = bytes.now; faults = self.old.absent_faults } ∷ [];
+          books = self.old.books ++ record {
+            name = name.now;
+            bytes = bytes.now;
+            faults = self.old.absent_faults;
+          } ∷ [];
         }) }
         ensures refused { OnErr result (self.new ≡ self.old) }
     {
@@ -88,7 +98,8 @@ impl MemoryShelf {
 
     /// Lists a call that is to fail. Out of memory, nothing changes.
     pub fn fail_at(&mut self, call: u64) -> Result<(), Memory>
-        ensures listed { OnOk result (self.new ≡ record self.old { failing = self.old.failing ++ call ∷ [] }) }
+        ensures listed { OnOk result
+            (self.new ≡ record self.old { failing = self.old.failing ++ call ∷ [] }) }
         ensures refused { OnErr result (self.new ≡ self.old) }
     {
         self.failing.push(call)?;
@@ -134,10 +145,12 @@ impl Shelf for MemoryShelf {
         ensures told { (n : List ℕ) → text_of self.new.books n ≡ text_of self.old.books n }
         ensures counts { (n : List ℕ) → faults_of self.old n ≤ faults_of self.new n }
         ensures given { IfOk result (λ n. Gives (text_of self.old.books name.now) at n into.new) }
-        ensures failed { OnErr result (Rose (faults_of self.old name.now) (faults_of self.new name.now)) }
+        ensures failed { OnErr result
+            (Rose (faults_of self.old name.now) (faults_of self.new name.now)) }
 
         ensures fails { IsErr result ↔ IsTrue (fails_for self.old name.now) }
-        ensures gives { IfOk result (λ n. IfSome (text_of self.old.books name.now) (λ text. n ≡ given_of self.old text at (length into.old))) }
+        ensures gives { IfOk result (λ n. IfSome (text_of self.old.books name.now)
+            (λ text. n ≡ given_of self.old text at (length into.old))) }
         ensures behind { IfOk result (λ n. drop n into.new ≡ drop n into.old) }
         ensures after { self.new ≡ after_call self.old name.now }
     {

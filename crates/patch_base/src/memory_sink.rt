@@ -44,7 +44,14 @@ impl MemorySink {
     /// An empty sink with room for so many bytes, which takes at most `most` of them a call.
     pub fn new(alloc: Global, room: usize, most: usize) -> Result<MemorySink, Memory>
         requires { 1 ≤ most }
-        ensures { IfOk result (λ s. s ≡ record { bytes = []; room = room; most = most; faults = 0; next_call = Some 0; failing = [] }) }
+        ensures { IfOk result (λ s. s ≡ record {
+          bytes = [];
+          room = room;
+          most = most;
+          faults = 0;
+          next_call = Some 0;
+          failing = [];
+        }) }
     {
         Ok(MemorySink {
             bytes: vec![in alloc; 0; room]?,
@@ -58,7 +65,8 @@ impl MemorySink {
 
     /// Lists a call that is to fail. Out of memory, nothing changes.
     pub fn fail_at(&mut self, call: u64) -> Result<(), Memory>
-        ensures listed { OnOk result (self.new ≡ record self.old { failing = self.old.failing ++ call ∷ [] }) }
+        ensures listed { OnOk result
+            (self.new ≡ record self.old { failing = self.old.failing ++ call ∷ [] }) }
         ensures refused { OnErr result (self.new ≡ self.old) }
     {
         self.failing.push(call)?;
@@ -82,7 +90,8 @@ impl Sink for MemorySink {
 
     fn write(&mut self, bytes: &[u8]) -> Result<usize, Failed>
         ensures counts { self.old.faults ≤ self.new.faults }
-        ensures appended { IfOk result (λ n. Appends (Some self.old.bytes) (Some self.new.bytes) bytes.now n) }
+        ensures appended { IfOk result
+            (λ n. Appends (Some self.old.bytes) (Some self.new.bytes) bytes.now n) }
         ensures nothing { result ≡ Ok 0 → IsEndOnly self.old.faults self.new.faults bytes.now }
         ensures kept { OnErr result (self.new.bytes ≡ self.old.bytes) }
         ensures failed { OnErr result (Rose self.old.faults self.new.faults) }

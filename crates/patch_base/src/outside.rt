@@ -65,7 +65,8 @@ pub trait Shelf {
         ensures told { (n : List ℕ) → tells self.new n ≡ tells self.old n }
         ensures counts { (n : List ℕ) → faults self.old n ≤ faults self.new n }
         ensures given { IfOk result (λ n. Gives (tells self.old name.now) at n into.new) }
-        ensures failed { OnErr result (Rose (faults self.old name.now) (faults self.new name.now)) };
+        ensures failed { OnErr result
+            (Rose (faults self.old name.now) (faults self.new name.now)) };
 }
 
 /// Where bytes are written. The count of its faults doesn't fall.
@@ -79,7 +80,8 @@ pub trait Sink {
     /// Appends the first bytes of a piece, and says how many. After a fault none was appended.
     fn write(&mut self, bytes: &[u8]) -> Result<usize, Failed>
         ensures counts { faults self.old ≤ faults self.new }
-        ensures appended { IfOk result (λ n. Appends (taken self.old) (taken self.new) bytes.now n) }
+        ensures appended { IfOk result
+            (λ n. Appends (taken self.old) (taken self.new) bytes.now n) }
         ensures nothing { result ≡ Ok 0 → IsEndOnly (faults self.old) (faults self.new) bytes.now }
         ensures kept { OnErr result (taken self.new ≡ taken self.old) }
         ensures failed { OnErr result (Rose (faults self.old) (faults self.new)) };

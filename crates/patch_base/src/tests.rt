@@ -1,6 +1,6 @@
 use crate::{
-    Failed, Line, Listed, MemoryShelf, MemorySink, Need, NeverFails, ReadFault, Shelf, Sink, Used,
-    Words, bit, decimal, is_name, is_skipped, next_line, put_decimal, read_text, write_all,
+    Failed, Line, Listed, MemoryShelf, MemorySink, Need, NeverFails, Pen, ReadFault, Shelf, Sink,
+    Used, Words, bit, decimal, is_name, is_skipped, next_line, put_decimal, read_text, write_all,
 };
 use std::test::Fail;
 
@@ -165,6 +165,46 @@ fn writes_as_much_as_the_sink_takes(rt: HostRuntime) -> Result<(), Fail> {
         assert_eq!(rt; sink.write(b""), Ok(0));
     }
     Ok(())
+}
+
+#[test]
+fn sends_what_a_pen_holds(rt: HostRuntime) -> Result<(), Fail> {
+    for (length, room, written) in [
+        (1, 9, Ok(())),
+        (1, 8, Err(Failed)),
+        (4_094, 4_102, Ok(())),
+        (4_094, 2, Err(Failed)),
+        (5_000, 5_008, Ok(())),
+        (5_000, 6, Err(Failed)),
+        (5_000, 4, Err(Failed)),
+    ] {
+        let piece = vec![in rt.alloc(); b'x'; length]?;
+        let mut text = Vec::from_slice(rt.alloc(), b"b10\n")?;
+        text.extend_from_slice(&piece)?;
+        text.extend_from_slice(b".end")?;
+        let made = MemorySink::new(rt.alloc(), room, 3);
+        assert!(rt; made.is_ok());
+        let Ok(mut sink) = made else {
+            return Ok(());
+        };
+        assert_eq!(rt; write_by_pen(&piece, &mut sink), written);
+        assert_eq!(rt; sink.bytes().len(), room);
+        assert!(rt; text.starts_with(sink.bytes()));
+    }
+    Ok(())
+}
+
+fn write_by_pen(piece: &[u8], out: &mut MemorySink) -> Result<(), Failed> {
+    let mut pen = Pen::new();
+    pen.put(b"a");
+    pen.clear();
+    pen.put_byte(b'b');
+    pen.put_decimal(10);
+    pen.put(b"\n");
+    pen.put_all(piece, out)?;
+    pen.make_room(out)?;
+    pen.put(b".end");
+    pen.send(out)
 }
 
 #[test]

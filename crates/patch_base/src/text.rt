@@ -26,7 +26,8 @@ pub fn next_line(text: &[u8], at: usize) -> Option<Line>
     ensures end { IsNone result ↔ (length text.now ≤ at) }
     ensures line { IfSome result (IsLineAt text.now at) }
     ensures within { IfSome result (IsWithin text.now) }
-    ensures lines { IfSome result (λ l. lines (drop at text.now) ≡ slice_range text.now l.start l.end ∷ lines (drop l.next text.now)) }
+    ensures lines { IfSome result (λ l. lines (drop at text.now)
+        ≡ slice_range text.now l.start l.end ∷ lines (drop l.next text.now)) }
 {
     if text.len() <= at {
         return None;

@@ -37,9 +37,11 @@ pub fn read_text<S: Shelf>(
     requires { limit < 2 ^ 32 }
     ensures told { (n : List ℕ) → S.tells shelf.new n ≡ S.tells shelf.old n }
     ensures counts { (n : List ℕ) → S.faults shelf.old n ≤ S.faults shelf.new n }
-    ensures text { IfOk result (λ text. IfSome (S.tells shelf.old name.now) (λ bytes. text.items ≡ take (limit + 1) bytes)) }
+    ensures text { IfOk result (λ text. IfSome (S.tells shelf.old name.now)
+        (λ bytes. text.items ≡ take (limit + 1) bytes)) }
     ensures len { IfOk result (λ text. length text.items ≤ limit + 1) }
-    ensures failed { result ≡ Err ReadFault.Failed → Rose (S.faults shelf.old name.now) (S.faults shelf.new name.now) }
+    ensures failed { result ≡ Err ReadFault.Failed
+        → Rose (S.faults shelf.old name.now) (S.faults shelf.new name.now) }
 {
     let enough = limit as usize + 1;
     let mut text = Vec::new(alloc);

@@ -1,5 +1,4 @@
 pub mod Pieces
-pub mod Passing
 pub mod OneText
 pub mod Rising
 pub mod Worded

@@ -1,11 +1,14 @@
 -- The pieces of a text, one more at a time.
-use Rattle.std.proofs.Common.{◌≡◌, ℕ, ◌+◌, ◌-◌, ◌≤◌, ◌<◌, List, [], ◌∷◌, ◌++◌, length, take, drop, sym, ◌∙◌, ap, arith, append_assoc, Bool, zero, suc}
-use Rattle.std.specs.Prelude.{Some, flat_map, slice_get, map, decimal, codes, All}
+use Rattle.std.proofs.Common.{◌≡◌, ℕ, ◌+◌, ◌-◌, ◌≤◌, ◌<◌, List, [], ◌∷◌, ◌++◌, length, take, drop, sym, subst, ◌∙◌, ap, arith, append_assoc, Bool, zero, suc}
+use Rattle.std.specs.Prelude.{Option, Some, flat_map, slice_get, map, decimal, codes, All}
 use Rattle.std.proofs.lemmas.List.{append-nil, take_more, take-append-drop}
 use Rattle.std.proofs.lemmas.Grind.{flat_map-append}
 use Rattle.std.proofs.lemmas.List.Folds.{flat_map-map}
 use Rattle.std.proofs.lemmas.List.Sums.{sum_by-cons}
+use Rattle.patch_base.specs.Outside.{AppendsPrefix}
+use Rattle.patch_base.specs.Passes.{Passes}
 use Rattle.patch_base.specs.Texts.{spaced, digit}
+use Rattle.patch_base.proofs.Passing.{passes_then, began_rest}
 use Rattle.source_model.specs.declared.Register.{Register}
 use Rattle.source_model.specs.Circuits.{FirstsRunOn, bits_in}
 use Rattle.board_core.specs.declared.Noted.{Noted}
@@ -30,6 +33,15 @@ pieces_more f xs i x e =
 pub pieces_in : {X : Type 0} (f : X → List ℕ) (xs : List X) (i : ℕ) (x : X) → slice_get xs i ≡ Some x → flat_map f xs ≡ (flat_map f (take i xs) ++ f x) ++ flat_map f (drop (i + 1) xs)
 pieces_in f xs i x e =
     cc (pieces_more f xs i x e, flat_map-append f (take (i + 1) xs) (drop (i + 1) xs), ap (flat_map f) (take-append-drop (i + 1) xs))
+
+-- the pieces so far went through a pen, and then the one of the next
+pub passes_more : {X : Type 0} (f : X → List ℕ) (xs : List X) (n : ℕ) (x : X) {a b c : Option (List ℕ)} {h i j : List ℕ} → slice_get xs n ≡ Some x → Passes a b h i (flat_map f (take n xs)) → Passes b c i j (f x) → Passes a c h j (flat_map f (take (n + 1) xs))
+passes_more f xs n x {a} {b} {c} {h} {i} {j} e p q =
+    let P : List ℕ → Type 0 = λ z. Passes a c h j z in subst P (sym (pieces_more f xs n x e)) (passes_then p q)
+
+-- what is begun of the piece of the next is begun of all pieces
+pub began_more_of : {X : Type 0} (f : X → List ℕ) (xs : List X) (n : ℕ) (x : X) {a b : Option (List ℕ)} {h i : List ℕ} (c : Option (List ℕ)) → slice_get xs n ≡ Some x → Passes a b h i (flat_map f (take n xs)) → AppendsPrefix b c (i ++ f x) → AppendsPrefix a c (h ++ flat_map f xs)
+began_more_of f xs n x c e p q = began_rest c (f x) (flat_map f (drop (n + 1) xs)) (flat_map f xs) p (pieces_in f xs n x e) q
 
 -- one byte more for one element more
 pub byte_more : {X : Type 0} (f : X → List ℕ) (xs : List X) (i : ℕ) (x : X) (b : ℕ) (start self next : List ℕ) → slice_get xs i ≡ Some x → f x ≡ b ∷ [] → next ≡ self ++ b ∷ [] → self ≡ start ++ flat_map f (take i xs) → next ≡ start ++ flat_map f (take (i + 1) xs)

@@ -1,18 +1,11 @@
--- Bytes on their way through a pen, which holds some of them back, to a sink.
-use Rattle.std.specs.Prelude.{◌≡◌, ℕ, Bool, ◌+◌, ◌≤◌, List, [], ◌∷◌, ◌++◌, flat_map, codes, decimal, Option}
+-- The pieces of a text that go through a pen in turn.
+use Rattle.std.specs.Prelude.{ℕ, Bool, ◌+◌, ◌≤◌, List, [], ◌∷◌, flat_map, codes, decimal}
 use Rattle.pauli_product.specs.Spelling.{product_text}
 use Rattle.source_model.specs.declared.Register.{Register}
 use Rattle.board_core.specs.declared.Noted.{Noted}
 use Rattle.board_core.specs.declared.Entry.{Entry}
 use Rattle.board_core.specs.declared.Entry.TheVariants.{Claim, Deliver, Release, Step, Settle}
-use Rattle.patch_base.specs.Outside.{Grew}
 use Rattle.schedule_text.specs.Text.{optional, entry_words, entry_line, bits_line, two, ended}
-
--- of the bytes that were held and of these, the first went to the sink, and the others are held
-pub record Passes (was now : Option (List ℕ)) (held holds bytes : List ℕ) : Type 0 where
-  pub sent : List ℕ
-  pub grew : Grew was now sent
-  pub whole : held ++ bytes ≡ sent ++ holds
 
 -- words, each after a space
 abbrev pub spread : List (List ℕ) → List ℕ
@@ -20,7 +13,8 @@ spread words = flat_map (λ w. 32 ∷ w) words
 
 -- the words of an entry but for a claim's cells
 abbrev pub head_words : Entry → List (List ℕ)
-head_words (Claim p axis port state cells) = codes "C" ∷ decimal p ∷ product_text axis ∷ optional port ∷ optional state ∷ []
+head_words (Claim p axis port state cells) =
+    codes "C" ∷ decimal p ∷ product_text axis ∷ optional port ∷ optional state ∷ []
 head_words (Deliver p g) = entry_words (Deliver p g)
 head_words (Release p) = entry_words (Release p)
 head_words (Step f) = entry_words (Step f)

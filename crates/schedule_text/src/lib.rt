@@ -17,17 +17,17 @@ ghost use Rattle.schedule_text.specs.Text.{text_of, bits_text, two, bit_in, Text
 ghost use Rattle.schedule_text.specs.Laws.{OneSchedule, LegalEntriesStand};
 
 mod bits;
-mod pen;
 mod read;
+mod write;
 
 use bits::{Said, count};
 use board_core::{Board, Noted, law_headline, law_short};
 use node_log::Log;
-use patch_base::{Failed, Memory, Sink, Words};
-use pen::Pen;
+use patch_base::{Failed, Memory, Pen, Sink, Words};
 use read::{entry, worker};
 use source_model::{Circuit, Static, law_bits};
 use std::alloc::Global;
+use write::{put_bits, put_entries};
 
 /// Writes a history as text of version 2: the header, a line for each entry, and a line for each register's bits.
 /// `bits` has one truth value per bit of the registers. No memory is taken.
@@ -52,8 +52,8 @@ pub fn write_history<O: Sink>(
 {
     let mut pen = Pen::new();
     pen.put(b"schedule 2\n");
-    pen.entries(history, out)?;
-    pen.bits(circuit, bits, out)?;
+    put_entries(&mut pen, history, out)?;
+    put_bits(&mut pen, circuit, bits, out)?;
     pen.send(out)
 }
 
@@ -74,7 +74,7 @@ pub fn write_bits<O: Sink>(circuit: &Circuit, bits: &[bool], out: &mut O) -> Res
     ensures failed { OnErr result (Rose (O.faults out.old) (O.faults out.new)) }
 {
     let mut pen = Pen::new();
-    pen.bits(circuit, bits, out)?;
+    put_bits(&mut pen, circuit, bits, out)?;
     pen.send(out)
 }
 

@@ -13,7 +13,6 @@ pub mod Stepping
 pub mod Next
 pub mod Starting
 pub mod Pieces
-pub mod Passing
 pub mod Drawn
 pub mod Sixes
 pub mod Paging

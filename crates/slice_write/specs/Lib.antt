@@ -5,7 +5,6 @@ pub mod Numbers
 pub mod Clashes
 pub mod Factories
 pub mod Tables
-pub mod Passes
 pub mod Pictures
 pub mod Marks
 pub mod Pages

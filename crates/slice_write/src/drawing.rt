@@ -6,9 +6,9 @@ ghost use Rattle.slice_write.specs.Pictures.{aligned, picture, nobody};
 ghost use Rattle.slice_write.specs.Marks.{mark_at, with_mark, IsNarrow};
 
 use crate::marks::Mark;
-use crate::pen::Pen;
+use crate::picture::put_piece;
 use itoa::Buffer;
-use patch_base::Memory;
+use patch_base::{Memory, Pen};
 use patch_layout::Layout;
 use std::alloc::Global;
 
@@ -52,7 +52,7 @@ impl Drawing {
         let mut pen = Pen::new();
         for cell in 0..layout.size() {
             pen.clear();
-            pen.piece(layout, cell);
+            put_piece(&mut pen, layout, cell);
             starts.push(blank.len())?;
             blank.extend_from_slice(pen.held())?;
         }

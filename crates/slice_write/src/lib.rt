@@ -18,16 +18,16 @@ mod ledger;
 mod marks;
 mod numbers;
 mod page;
-mod pen;
+mod picture;
 mod placed;
 mod text;
 
 use board_core::Board;
 pub use fault::SliceFault;
 use history::{slice_history, write_history_slices};
-use patch_base::{Failed, Memory, Sink};
+use patch_base::{Failed, Memory, Pen, Sink};
 use patch_layout::Layout;
-use pen::Pen;
+use picture::put_picture;
 use std::alloc::Global;
 
 /// The slice of each entry of a board's history. Entries of one slice can be carried out at once: an entry's slice is the
@@ -96,7 +96,7 @@ pub fn write_picture<O: Sink>(layout: &Layout, out: &mut O) -> Result<(), Failed
     ensures failed { OnErr result (Rose (O.faults out.old) (O.faults out.new)) }
 {
     let mut pen = Pen::new();
-    pen.picture(layout, out)?;
+    put_picture(&mut pen, layout, out)?;
     pen.send(out)
 }
 

@@ -5,17 +5,16 @@ ghost use Rattle.patch_base.specs.Outside.{Rose, Grew, AppendsPrefix};
 ghost use Rattle.patch_layout.specs.Grid.{Grid};
 ghost use Rattle.board_core.specs.History.{entries};
 ghost use Rattle.slice_write.specs.Slices.{greatest as greatest_of_all, upto};
-ghost use Rattle.slice_write.specs.Passes.{Passes};
+ghost use Rattle.patch_base.specs.Passes.{Passes};
 ghost use Rattle.slice_write.specs.Pictures.{slice_line};
 ghost use Rattle.slice_write.specs.Marks.{HasRoom, FewFactories, IsNarrow, paired};
 ghost use Rattle.slice_write.specs.Pages.{PagesAre, AreNarrow, IsDrawn, stepping_by, page_text, page_at, pages_text};
 
 use crate::drawing::Drawing;
 use crate::page::Page;
-use crate::pen::Pen;
 use board_core::Noted;
 use node_log::Log;
-use patch_base::{Failed, Memory, Sink};
+use patch_base::{Failed, Memory, Pen, Sink};
 use patch_layout::Layout;
 use std::alloc::Global;
 
@@ -76,7 +75,7 @@ fn put_steps(pen: &mut Pen, steps: &[bool])
     for factory in 0..16u32 {
         if steps[factory as usize] {
             pen.put_byte(b' ');
-            pen.decimal(factory);
+            pen.put_decimal(factory);
         }
     }
 }
@@ -87,7 +86,7 @@ fn put_line(pen: &mut Pen, number: u32, steps: &[bool])
     ensures { pen.new ≡ pen.old ++ slice_line number (stepping_by steps.now) }
 {
     pen.put(b"slice ");
-    pen.decimal(number);
+    pen.put_decimal(number);
     put_steps(pen, steps);
     pen.put_byte(b'\n');
 }
@@ -164,7 +163,7 @@ pub(crate) fn write_pages<O: Sink>(
 {
     let mut pen = Pen::new();
     pen.put(b"slices 1 ");
-    pen.decimal(last);
+    pen.put_decimal(last);
     pen.put_byte(b'\n');
     put_pages(&mut pen, layout, pages, drawing, out)?;
     pen.send(out)

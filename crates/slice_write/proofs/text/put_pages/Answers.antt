@@ -1,9 +1,10 @@
 use Rattle.std.proofs.Common.{◌≡◌, ◌+◌, ◌-◌, ◌<◌, ◌++◌, List, ℕ, length, arith, sym, ◌∙◌, ap, subst}
 use Rattle.patch_base.specs.Outside.{AppendsPrefix}
-use Rattle.slice_write.specs.Passes.{Passes}
+use Rattle.patch_base.specs.Passes.{Passes}
 use Rattle.slice_write.specs.Pages.{page_at, page_text}
 use Rattle.slice_write.proofs.Words.{page_here}
-use Rattle.slice_write.proofs.Passing.{passes_more, began_more_of, on_err}
+use Rattle.patch_base.proofs.Passing.{on_err}
+use Rattle.slice_write.proofs.Pieces.{passes_more, began_more_of}
 use Rattle.slice_write.proofs.text.put_pages.Goals as goal
 
 pub returns-in_err-put_page-clause-prefix : goal.returns-in_err-put_page-clause-prefix

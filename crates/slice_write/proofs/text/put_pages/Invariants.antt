@@ -1,7 +1,7 @@
 use Rattle.std.proofs.Common.{◌≤◌}
 use Rattle.std.specs.Prelude.{flat_map}
 use Rattle.slice_write.specs.Slices.{upto}
-use Rattle.slice_write.specs.Passes.{Passes}
+use Rattle.patch_base.specs.Passes.{Passes}
 use Rattle.slice_write.specs.Pages.{IsDrawn, page_at}
 use Rattle.slice_write.proofs.text.put_pages.Given as goal
 

@@ -11,7 +11,7 @@ pub loop-cell-preserved : goal.loop-cell-preserved
 loop-cell-preserved c =
     let f = piece c.args.layout.now nobody in
     let at : c.len.result ≡ length (flat_map f (upto c.loop-cell.cell)) = omega (arith, c.len.ensures, c.loop-cell.blank.ok.0, ap length c.loop-cell.invariant.text) in
-    let this : c.held.result.now ≡ f c.loop-cell.cell = c.held.ensures ∙ c.piece.ensures.text ∙ ap (λ l. l ++ f c.loop-cell.cell) c.clear.ensures in
+    let this : c.held.result.now ≡ f c.loop-cell.cell = c.held.ensures ∙ c.put_piece.ensures.text ∙ ap (λ l. l ++ f c.loop-cell.cell) c.clear.ensures in
     record {
       text = c.in_ok-extend_from_slice.ensures.items ∙ ap (λ l. l ++ c.held.result.now) c.loop-cell.invariant.text ∙ ap (λ l. flat_map f (upto c.loop-cell.cell) ++ l) this ∙ sym (upto_more f c.loop-cell.cell);
       size = ap length c.in_ok-push.ensures.items ∙ length_push c.loop-cell.starts.items c.len.result ∙ ap (λ n. n + 1) c.loop-cell.invariant.size;
