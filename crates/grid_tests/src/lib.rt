@@ -2,9 +2,13 @@
 #![tactic(auto)]
 
 #[cfg(test)]
+mod brute;
+#[cfg(test)]
 mod certificates;
 #[cfg(test)]
 mod layouts;
+#[cfg(test)]
+mod least;
 #[cfg(test)]
 mod looks;
 #[cfg(test)]

@@ -13,13 +13,13 @@ use region_plan::{
 use std::alloc::Global;
 use std::test::Fail;
 
-/// The row layout for one qubit: cells 0 to 3 above, and below them an ancilla cell, patch 0, an
-/// ancilla cell and the port of factory 0 in cells 4 to 7.
+// The row layout for one qubit: cells 0 to 3 above, and below them an ancilla cell, patch 0, an
+// ancilla cell and the port of factory 0 in cells 4 to 7.
 fn row_one(alloc: Global) -> Result<Layout, LayoutFault> {
     row_for(alloc, &[true])
 }
 
-/// The ports of factories 1 and 0 below cells 0 and 5, and patch 0 below cell 2.
+// The ports of factories 1 and 0 below cells 0 and 5, and patch 0 below cell 2.
 fn two_ports(alloc: Global) -> Result<Layout, LayoutFault> {
     layout_of(
         alloc,
@@ -27,8 +27,9 @@ fn two_ports(alloc: Global) -> Result<Layout, LayoutFault> {
     )
 }
 
-// A look for this axis, where product 0 holds these cells.
-fn look_at(
+/// A look for this axis, where product 0 holds these cells, and factory 0 has a ready state for a
+/// rotation.
+pub fn look_at(
     alloc: Global,
     layout: &Layout,
     letters: &[Letter],
@@ -50,7 +51,8 @@ fn look_at(
     Ok(look)
 }
 
-fn has_letter(axis: &Product) -> bool
+/// Whether a qubit of the axis has a letter other than I.
+pub fn has_letter(axis: &Product) -> bool
     ensures { IsTrue result → (q : ℕ) × HasLetter axis.now q }
 {
     for qubit in 0..axis.len() {

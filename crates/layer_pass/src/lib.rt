@@ -2,8 +2,6 @@
 #![tactic(auto)]
 
 mod draft;
-#[cfg(test)]
-mod tests;
 
 ghost use Rattle.std.specs.Prelude.{◌≡◌, List, length, IfOk};
 ghost use Rattle.pauli_product.specs.Signed.{Signed};

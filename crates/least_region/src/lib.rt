@@ -2,16 +2,12 @@
 #![tactic(auto)]
 
 mod answer;
-#[cfg(test)]
-mod brute;
 mod free;
 mod grow;
 mod merge;
 mod picks;
 mod shrink;
 mod table;
-#[cfg(test)]
-mod tests;
 mod trace;
 mod width;
 

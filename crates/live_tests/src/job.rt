@@ -16,7 +16,9 @@ pub(crate) struct JobShelf<'a> {
 /// A circuit as an exporter writes it, on five patches with two factories.
 pub(crate) fn exported<'a>() -> JobShelf<'a> {
     JobShelf {
-        circuit: b"OPENQASM 2.0;\ninclude \"qelib1.inc\";\nqreg q[5];\ncreg c[5];\nh q[0];\ncx q[0],q[1];\nt q[1];\nswap q[1],q[2];\ntdg q[2];\nbarrier q[0],q[1],q[2],q[3],q[4];\nh q[2];\nmeasure q -> c;\n",
+        circuit: b"OPENQASM 2.0;\ninclude \"qelib1.inc\";\nqreg q[5];\ncreg c[5];\n\
+            h q[0];\ncx q[0],q[1];\nt q[1];\nswap q[1],q[2];\ntdg q[2];\n\
+            barrier q[0],q[1],q[2],q[3],q[4];\nh q[2];\nmeasure q -> c;\n",
         layout: b"layout 1 3 11\npatch 0 12 h\npatch 1 14 h\npatch 2 16 h\npatch 3 18 h\npatch 4 20 h\nport 0 0 h 2\nport 1 32 h 2\n",
         outcomes: b"outcomes 1\nr 0 1 0\nr 1 1 0\nm 2 0\nm 3 1\nm 4 1\nm 5 0\nm 6 1\n",
         faults: 0,

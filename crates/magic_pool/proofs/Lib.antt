@@ -1,4 +1,3 @@
-pub mod Fewer
 pub mod Histories
 pub mod Readiness
 pub mod Runs

@@ -5,8 +5,6 @@
 mod factory;
 mod laws;
 mod pool;
-#[cfg(test)]
-mod tests;
 
 pub use laws::{law_apart, law_once};
 pub use pool::Pool;

@@ -7,8 +7,6 @@ mod block;
 mod chain;
 mod log;
 mod node;
-#[cfg(test)]
-mod tests;
 
 pub use log::{Log, Walk};
 pub use node::Node;

@@ -6,8 +6,6 @@ mod laws;
 mod rule;
 mod share;
 mod steps;
-#[cfg(test)]
-mod tests;
 mod view;
 
 pub use laws::{law_once, law_threads};

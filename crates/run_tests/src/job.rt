@@ -8,8 +8,9 @@ pub(crate) struct Job<'a> {
     pub outcomes: &'a [u8],
 }
 
-const EXPORTED: &[u8] =
-    b"OPENQASM 2.0;\ninclude \"qelib1.inc\";\nqreg q[5];\ncreg c[5];\nh q[0];\ncx q[0],q[1];\nt q[1];\nswap q[1],q[2];\ntdg q[2];\nbarrier q[0],q[1],q[2],q[3],q[4];\nh q[2];\nmeasure q -> c;\n";
+const EXPORTED: &[u8] = b"OPENQASM 2.0;\ninclude \"qelib1.inc\";\nqreg q[5];\ncreg c[5];\n\
+    h q[0];\ncx q[0],q[1];\nt q[1];\nswap q[1],q[2];\ntdg q[2];\n\
+    barrier q[0],q[1],q[2],q[3],q[4];\nh q[2];\nmeasure q -> c;\n";
 
 const EXPORTED_LAYOUT: &[u8] =
     b"layout 1 3 11\npatch 0 12 h\npatch 1 14 h\npatch 2 16 h\npatch 3 18 h\npatch 4 20 h\nport 0 0 h 2\nport 1 32 h 2\n";
@@ -17,8 +18,10 @@ const EXPORTED_LAYOUT: &[u8] =
 const EXPORTED_OUTCOMES: &[u8] =
     b"outcomes 1\nr 0 1 0\nr 1 1 0\nm 2 0\nm 3 1\nm 4 1\nm 5 0\nm 6 1\n";
 
-const TELEPORTATION: &[u8] =
-    b"OPENQASM 2.0;\ninclude \"qelib1.inc\";\nqreg q[3];\ncreg mz[1];\ncreg mx[1];\ncreg out[1];\nh q[0];\nt q[0];\nh q[1];\ncx q[1],q[2];\ncx q[0],q[1];\nh q[0];\nmeasure q[0] -> mz[0];\nmeasure q[1] -> mx[0];\nif(mx==1) x q[2];\nif(mz==1) z q[2];\ntdg q[2];\nh q[2];\nmeasure q[2] -> out[0];\n";
+const TELEPORTATION: &[u8] = b"OPENQASM 2.0;\ninclude \"qelib1.inc\";\nqreg q[3];\n\
+    creg mz[1];\ncreg mx[1];\ncreg out[1];\nh q[0];\nt q[0];\nh q[1];\ncx q[1],q[2];\n\
+    cx q[0],q[1];\nh q[0];\nmeasure q[0] -> mz[0];\nmeasure q[1] -> mx[0];\n\
+    if(mx==1) x q[2];\nif(mz==1) z q[2];\ntdg q[2];\nh q[2];\nmeasure q[2] -> out[0];\n";
 
 const TELEPORTATION_LAYOUT: &[u8] =
     b"layout 1 3 7\npatch 0 8 h\npatch 1 10 h\npatch 2 12 h\nport 0 0 h 2\n";

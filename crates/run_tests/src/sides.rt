@@ -106,8 +106,10 @@ fn one_program_stands_alone(rt: HostRuntime) -> Result<(), Fail> {
 const ON_EIGHT: &[u8] =
     b"layout 1 2 18\npatch 0 19 h\npatch 1 21 h\npatch 2 23 h\npatch 3 25 h\npatch 4 27 h\npatch 5 29 h\npatch 6 31 h\npatch 7 33 h\n";
 
-const EIGHT_JOINED: &[u8] =
-    b"products 1 8\nc p0_c 1\nc p1_c 1\nc p2_c 1\nc p3_c 1\nc p4_c 1\nc p5_c 1\nc p6_c 1\nc p7_c 1\nm +ZIIIIIII p0_c 0\nm +IZIIIIII p1_c 0\nm +IIZIIIII p2_c 0\nm +IIIZIIII p3_c 0\nm +IIIIZIII p4_c 0\nm +IIIIIZII p5_c 0\nm +IIIIIIZI p6_c 0\nm +IIIIIIIZ p7_c 0\n";
+const EIGHT_JOINED: &[u8] = b"products 1 8\nc p0_c 1\nc p1_c 1\nc p2_c 1\nc p3_c 1\n\
+    c p4_c 1\nc p5_c 1\nc p6_c 1\nc p7_c 1\nm +ZIIIIIII p0_c 0\nm +IZIIIIII p1_c 0\n\
+    m +IIZIIIII p2_c 0\nm +IIIZIIII p3_c 0\nm +IIIIZIII p4_c 0\nm +IIIIIZII p5_c 0\n\
+    m +IIIIIIZI p6_c 0\nm +IIIIIIIZ p7_c 0\n";
 
 const EIGHT_OUTCOMES: &[u8] =
     b"outcomes 1\nm 0 1\nm 1 0\nm 2 1\nm 3 1\nm 4 0\nm 5 0\nm 6 0\nm 7 1\n";

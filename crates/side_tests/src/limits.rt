@@ -61,8 +61,11 @@ fn a_product_past_16384(rt: HostRuntime) -> Result<(), Fail> {
 }
 
 // A circuit with 32 registers, `r00` to `r31`.
-const HALF: &[u8] =
-    b"products 1 1\nc r00 1\nc r01 1\nc r02 1\nc r03 1\nc r04 1\nc r05 1\nc r06 1\nc r07 1\nc r08 1\nc r09 1\nc r10 1\nc r11 1\nc r12 1\nc r13 1\nc r14 1\nc r15 1\nc r16 1\nc r17 1\nc r18 1\nc r19 1\nc r20 1\nc r21 1\nc r22 1\nc r23 1\nc r24 1\nc r25 1\nc r26 1\nc r27 1\nc r28 1\nc r29 1\nc r30 1\nc r31 1\n";
+const HALF: &[u8] = b"products 1 1\n\
+    c r00 1\nc r01 1\nc r02 1\nc r03 1\nc r04 1\nc r05 1\nc r06 1\nc r07 1\n\
+    c r08 1\nc r09 1\nc r10 1\nc r11 1\nc r12 1\nc r13 1\nc r14 1\nc r15 1\n\
+    c r16 1\nc r17 1\nc r18 1\nc r19 1\nc r20 1\nc r21 1\nc r22 1\nc r23 1\n\
+    c r24 1\nc r25 1\nc r26 1\nc r27 1\nc r28 1\nc r29 1\nc r30 1\nc r31 1\n";
 
 #[test]
 fn a_register_past_64(rt: HostRuntime) -> Result<(), Fail> {

@@ -7,8 +7,6 @@
 mod law;
 mod lists;
 mod plain;
-#[cfg(test)]
-mod tests;
 
 pub use law::{law_bits, law_equal_runs, law_kinds, law_later_outcomes, law_used};
 pub use lists::{Items, Name, Registers};

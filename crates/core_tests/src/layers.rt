@@ -1,8 +1,9 @@
-// Worked examples.
+//! Layers of commuting products, by worked examples.
+
 ghost use Rattle.std.specs.Prelude.{◌≤◌, length};
 
-use crate::{Layers, least_layers};
 use commute_order::{Order, Uses};
+use layer_pass::{Layers, least_layers};
 use patch_base::Memory;
 use pauli_product::{Letter, Product};
 use std::alloc::Global;

@@ -6,11 +6,11 @@ ghost use Rattle.source_model.specs.declared.Angle.TheVariants.{Eighth};
 ghost use Rattle.source_model.specs.declared.Item.TheVariants.{Turn, Measure};
 ghost use Rattle.source_model.specs.Rows.{every_item, three_products};
 
-use crate::{
-    Angle, Circuit, Given, Item, Items, Name, Register, Registers, axes_plain, bits_plain,
-};
 use patch_base::Memory;
 use pauli_product::{Letter, Product};
+use source_model::{
+    Angle, Circuit, Given, Item, Items, Name, Register, Registers, axes_plain, bits_plain,
+};
 use std::alloc::Global;
 use std::test::Fail;
 

@@ -1,7 +1,7 @@
 use Rattle.std.proofs.Common.{◌+◌, ◌*◌, arith}
-use Rattle.magic_pool.proofs.Fewer.{fewer_new, fewer_least, fewer_step, fewer_take}
-use Rattle.magic_pool.proofs.tests.play.Goals as goal
-use Rattle.magic_pool.proofs.tests.play.Goals.{in-Run+else-assert_eq-2, in-Refused+else-assert_eq-3, in-Take+else-assert_eq-4, in-Ready+else-assert_eq-5}
+use Rattle.core_tests.proofs.Fewer.{fewer_new, fewer_least, fewer_step, fewer_take}
+use Rattle.core_tests.proofs.pool.play.Goals as goal
+use Rattle.core_tests.proofs.pool.play.Goals.{in-Run+else-assert_eq-2, in-Refused+else-assert_eq-3, in-Take+else-assert_eq-4, in-Ready+else-assert_eq-5}
 
 pub loop-call-init : goal.loop-call-init
 loop-call-init g c = fewer_new _ c.in_ok-pool.ensures.history

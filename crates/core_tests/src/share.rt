@@ -1,7 +1,7 @@
 ghost use Rattle.std.specs.Prelude.{◌≡◌, ◌≤◌, ◌++◌, ◌∷◌, [], IfOk};
 ghost use Rattle.number_share.specs.Hands.{IsOf};
 
-use crate::{Hand, Share};
+use number_share::{Hand, Share};
 use patch_base::PRODUCTS;
 use std::alloc::Global;
 use std::test::Fail;

@@ -1,6 +1,6 @@
 use Rattle.std.proofs.Common.{List, ℕ, [], ◌∷◌, sym, subst, Contains}
 use Rattle.std.proofs.lemmas.List.Elements.{Contains-append_left, Contains-push}
-use Rattle.number_share.proofs.tests.begun.Goals as goal
+use Rattle.core_tests.proofs.share.begun.Goals as goal
 
 pub put-requires : goal.put-requires
 put-requires c =

@@ -1,6 +1,6 @@
 use Rattle.std.proofs.Common.{◌+◌, arith}
-use Rattle.magic_pool.proofs.Fewer.{fewer_least, fewer_step}
-use Rattle.magic_pool.proofs.tests.run.Goals as goal
+use Rattle.core_tests.proofs.Fewer.{fewer_least, fewer_step}
+use Rattle.core_tests.proofs.pool.run.Goals as goal
 
 pub step-requires : goal.step-requires
 step-requires g c = fewer_least _ (4000 + c.loop-done.done-counter) 4294967295 (c.loop-done.invariant 4000 c.requires) (omega arith)

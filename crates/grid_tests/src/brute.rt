@@ -1,9 +1,9 @@
 //! Least regions of small grids, found again by a try of each set of cells.
 
-use crate::answer::LeastPlanned;
-use crate::tests::{ask, look_at, region};
-use patch_base::{Memory, Need, Used};
-use patch_layout::{Layout, LayoutFault, Look, Side, wanted};
+use crate::layouts::layout_of;
+use crate::least::{look_with_states, region};
+use patch_base::Memory;
+use patch_layout::{Layout, LayoutFault, Look, wanted};
 use pauli_product::Letter;
 use pauli_product::Letter::{I, X, Y, Z};
 use std::alloc::Global;
@@ -133,13 +133,8 @@ fn sizes(
     rotation: bool,
     held: &[u32],
 ) -> Result<(Option<usize>, Option<usize>), LayoutFault> {
-    let need = Need {
-        qubits: 0,
-        used: Used::of(Vec::new(alloc)),
-        rotations: false,
-    };
-    let layout = Layout::read(alloc, text, &need)?;
-    let look = look_at(alloc, &layout, letters, rotation, held)?;
+    let layout = layout_of(alloc, text)?;
+    let look = look_with_states(alloc, &layout, letters, rotation, held)?;
     let tried = tried(alloc, &layout, &look)?;
     Ok((planned(alloc, &layout, &look), tried))
 }

@@ -1,6 +1,6 @@
 ghost use Rattle.std.specs.Prelude.{◌≡◌, ◌∷◌, [], IfOk};
 
-use crate::{Log, Node};
+use node_log::{Log, Node};
 use patch_base::Memory;
 use std::alloc::Global;
 use std::test::Fail;

@@ -2,7 +2,7 @@ ghost use Rattle.std.specs.Prelude.{ℕ, ◌+◌, ◌≤◌, All, length};
 ghost use Rattle.magic_pool.specs.Pooled.{HasFewer};
 ghost use Rattle.magic_pool.specs.Makers.{AreDistinct, IsMaker};
 
-use crate::{Fail, Maker, Pool, StepRefused, Stepped};
+use magic_pool::{Fail, Maker, Pool, StepRefused, Stepped};
 use std::alloc::Global;
 use std::process::Abort;
 
