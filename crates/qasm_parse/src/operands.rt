@@ -1,6 +1,6 @@
 //! The arguments of calls, and what they mean.
 
-ghost use Rattle.std.specs.Prelude.{◌≡◌, ◌-◌, ◌==◌, ◌&&◌, Some, None, IfOk, nat_eq, nat_lt, nat_le};
+ghost use Rattle.std.specs.Prelude.{◌≡◌, ◌-◌, ◌==◌, ◌&&◌, [], Some, None, IfOk, nat_eq, nat_lt, nat_le};
 ghost use Rattle.std.specs.List.{list_any, list_all};
 ghost use Rattle.qasm_parse.specs.Small.{IsSmallSpan};
 ghost use Rattle.qasm_parse.specs.Faults.{name_place, past_end, meant, times, has_size, meets, any_pair};
@@ -61,6 +61,14 @@ pub fn meant(source: &Source<'_>, span: Span, arg: Argument) -> Arg
     }
 }
 
+// No arguments yet, and room for so many: a text has many calls, and each has few.
+fn room_for(alloc: Global, count: usize) -> Result<Listed<Arg>, Memory>
+    ensures { IfOk result (λ means. means ≡ []) }
+{
+    let means = Vec::with_capacity(alloc, count)?;
+    Ok(Listed::of(means))
+}
+
 /// What arguments mean that name quantum registers. A name that doesn't comes before an index that is past its end.
 pub fn resolve(
     alloc: Global,
@@ -70,7 +78,7 @@ pub fn resolve(
 ) -> Result<Listed<Arg>, Fault>
     ensures { Resolves result source.now known.now args.now }
 {
-    let mut means = Listed::new(alloc);
+    let mut means = room_for(alloc, args.len())?;
     let mut past = None;
     for arg in args {
         let name = name_place(*arg);

@@ -152,7 +152,8 @@ fn push_single_turns(
     requires control_within { control < qubits }
     requires target_within { target < qubits }
     ensures { OnOk result (items.new.items ≡ items.old.items
-        ++ turn_one qubits true target letter Quarter ∷ turn_one qubits true control Z Quarter ∷ []) }
+        ++ turn_one qubits true target letter Quarter
+        ∷ turn_one qubits true control Z Quarter ∷ []) }
 {
     push_turn(alloc, qubits, true, target, letter, Angle::Quarter, items)?;
     let letter = Letter::Z;

@@ -79,7 +79,7 @@ fn read_program(alloc: Global, text: &[u8]) -> Result<Circuit, CircuitFault>
     let tree = read_tree(alloc, text)?;
     let flats = expand(alloc, &tree)?;
     law_placed();
-    let circuit = joined(alloc, text, &tree, &flats)?;
+    let circuit = joined(alloc, text, tree, &flats)?;
     Ok(circuit)
 }
 
@@ -94,19 +94,20 @@ fn read_tree(alloc: Global, text: &[u8]) -> Result<Tree, CircuitFault>
     parse(alloc, text, &tokens)
 }
 
-// The circuit of a tree and its flat operations.
-fn joined(alloc: Global, text: &[u8], tree: &Tree, flats: &[Flat]) -> Result<Circuit, Memory>
-    requires sound { IsSound tree.now }
-    requires flats { flats.now ≡ flats_of tree.now }
+// The circuit of a tree and its flat operations. The tree, which is large, goes before the items come.
+fn joined(alloc: Global, text: &[u8], tree: Tree, flats: &[Flat]) -> Result<Circuit, Memory>
+    requires sound { IsSound tree }
+    requires flats { flats.now ≡ flats_of tree }
     requires bounded { length flats.now ≤ 262144 }
-    requires placed { All (ActsBelow (members tree.now.quantum)) flats.now }
-    requires named { All (IsNamed text.now) tree.now.classical }
-    ensures { IfOk result (λ c. c ≡ circuit_of text.now tree.now) }
+    requires placed { All (ActsBelow (members tree.quantum)) flats.now }
+    requires named { All (IsNamed text.now) tree.classical }
+    ensures { IfOk result (λ c. c ≡ circuit_of text.now tree) }
 {
     let qubits = members(tree.quantum.as_slice());
     let bits = members(tree.classical.as_slice());
-    let (items, hidden) = program_items(alloc, qubits, bits, flats)?;
     let registers = named_registers(alloc, text, tree.classical.as_slice())?;
+    drop(tree);
+    let (items, hidden) = program_items(alloc, qubits, bits, flats)?;
     Ok(Circuit {
         qubits,
         registers: Registers::of(registers),

@@ -10,7 +10,7 @@ use Rattle.qasm_parse.proofs.Arguments.{Resolved, resolved_stop, resolved_step, 
 use Rattle.qasm_parse.proofs.operands.resolve.Goals as goal
 
 pub loop-arg-init : goal.loop-arg-init
-loop-arg-init c = record { named = first_none; passed = sym first_none; meaning = λ e. c.new-means.ensures }
+loop-arg-init c = record { named = first_none; passed = sym first_none; meaning = λ e. c.in_ok-means.ensures }
 
 pub returns-in-None : goal.returns-in-None
 returns-in-None c =
