@@ -120,16 +120,15 @@ fn is_pair(pair: [Option<u32>; 2], other: [Option<u32>; 2]) -> bool
     pair[0] == other[0] && pair[1] == other[1]
 }
 
-// Whether a product holds a cell.
+// Whether a product holds a cell. The loop goes to the end, so that it looks at many cells at once.
 fn is_any_held(held: &[Option<u32>]) -> bool
     ensures { result ≡ false → Unheld held.now }
 {
+    let mut any = false;
     for by in held {
-        if by.is_some() {
-            return true;
-        }
+        any |= by.is_some();
     }
-    false
+    any
 }
 
 // Whether the layout has so many columns and these ancilla cells.
