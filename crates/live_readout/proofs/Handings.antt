@@ -19,8 +19,8 @@ use Rattle.grid_lock.specs.Passes.{Known, IsSamePass, IsCalm}
 use Rattle.grid_lock.specs.Answers.{AcceptsOutcome, RefusesOutcome}
 use Rattle.grid_lock.specs.Replies.{Delivers}
 use Rattle.router_work.specs.Passing.{Passed}
+use Rattle.router_work.specs.Waits.{OnlyRead, Waited}
 use Rattle.router_work.proofs.Passings.{passed_added, passed_busy, passed_found}
-use Rattle.router_work.proofs.Waitings.{waited_none}
 use Rattle.arrival_line.specs.declared.arrival.Arrival.{Arrival}
 use Rattle.live_readout.specs.Listed.{arrival}
 use Rattle.live_readout.specs.Entries.{IsHanding, arrivals_in, delivered_by}
@@ -48,32 +48,40 @@ releases p e is = subst IsAnyHanding (sym is) tt
 pub released_any : (p : ℕ) (q r : Known) → Passed (IsReleaseOf p) q r → Passed IsAnyHanding q r
 released_any p q r x = passed_weaker (IsReleaseOf p) IsAnyHanding q r (releases p) x
 
+-- reads of the length deliver nothing
+pub read_same : (p q : Known) → OnlyRead p.view q.view → delivered_by q.view.mine ≡ delivered_by p.view.mine
+read_same p q is = ap (λ (u : View). delivered_by u.mine) is
+
 -- the entry of an outcome other than that of a settled product
 delivers_it : (p : ℕ) (g : Given) (e : Entry) → (g ≡ given.Settled → ⊥) → EntryOf p g e → e ≡ Deliver p g
 delivers_it p (given.Rotation raw x) e region is = is
 delivers_it p (given.Measure raw) e region is = is
 delivers_it p given.Settled e region is = absurd (region refl)
 
--- ---- one call that delivers
-module _ (p q : Known) (same : IsSamePass p q) (calm : IsCalm q) (n : ℕ) (g : Given) (region : g ≡ given.Settled → ⊥) (node : Ptr) where
-  pub handed_passed : (r : Result ℕ TryDeliver) → Delivers p.view n g node r q.view → Passed IsAnyHanding p q
+-- ---- one call that delivers, after the turn was found held any number of times
+module _ (p q : Known) (same : IsSamePass p q) (calm : IsCalm q) (v : View) (waited : Waited p.view v) (n : ℕ) (g : Given) (region : g ≡ given.Settled → ⊥) (node : Ptr) where
+  own : v.mine ≡ p.view.mine
+  own = ap (λ (u : View). u.mine) waited.is
+
+  pub handed_passed : (r : Result ℕ TryDeliver) → Delivers v n g node r q.view → Passed IsAnyHanding p q
   handed_passed (Ok place) told =
       let is = delivers_it n g told.0 region told.1.2.entry in
-      passed_added IsAnyHanding p q p.view same calm (waited_none p.view) told.0 (λ b. AcceptsOutcome b n g told.0 place) (subst IsAnyHanding (sym is) tt) told.1
-  handed_passed (Err (deliver.Refused r)) told = passed_found IsAnyHanding p q p.view same calm (waited_none p.view) (λ b. RefusesOutcome b n g r.why) told.0
-  handed_passed (Err (deliver.Busy m)) told = passed_busy IsAnyHanding p q p.view same calm (waited_none p.view) told.0
+      passed_added IsAnyHanding p q v same calm waited told.0 (λ b. AcceptsOutcome b n g told.0 place) (subst IsAnyHanding (sym is) tt) told.1
+  handed_passed (Err (deliver.Refused r)) told = passed_found IsAnyHanding p q v same calm waited (λ b. RefusesOutcome b n g r.why) told.0
+  handed_passed (Err (deliver.Busy m)) told = passed_busy IsAnyHanding p q v same calm waited told.0
 
-  pub handed_made : (place : ℕ) → Delivers p.view n g node (Ok place) q.view → delivered_by q.view.mine ≡ delivered_by p.view.mine ++ arrival n g ∷ []
+  pub handed_made : (place : ℕ) → Delivers v n g node (Ok place) q.view → delivered_by q.view.mine ≡ delivered_by p.view.mine ++ arrival n g ∷ []
   handed_made place told =
       let is = delivers_it n g told.0 region told.1.2.entry in
-      ap (λ (w : View). delivered_by w.mine) told.1.3 ∙ delivered_by-append p.view.mine (note p.view.number told.0 ∷ [])
-      ∙ ap (λ (e : Entry). delivered_by p.view.mine ++ (arrivals_in e ++ [])) is
+      ap (λ (w : View). delivered_by w.mine) told.1.3 ∙ delivered_by-append v.mine (note v.number told.0 ∷ [])
+      ∙ ap (λ (e : Entry). delivered_by v.mine ++ (arrivals_in e ++ [])) is
+      ∙ ap (λ (l : List Noted). delivered_by l ++ arrival n g ∷ []) own
 
-  pub refused_made : (r : DeliverRefused) → Delivers p.view n g node (Err (deliver.Refused r)) q.view → delivered_by q.view.mine ≡ delivered_by p.view.mine
-  refused_made r told = ap (λ (w : View). delivered_by w.mine) told.0.2
+  pub refused_made : (r : DeliverRefused) → Delivers v n g node (Err (deliver.Refused r)) q.view → delivered_by q.view.mine ≡ delivered_by p.view.mine
+  refused_made r told = ap (λ (w : View). delivered_by w.mine) told.0.2 ∙ ap delivered_by own
 
-  pub busy_made : (m : Ptr) → Delivers p.view n g node (Err (deliver.Busy m)) q.view → delivered_by q.view.mine ≡ delivered_by p.view.mine
-  busy_made m told = ap (λ (w : View). delivered_by w.mine) told.0
+  pub busy_made : (m : Ptr) → Delivers v n g node (Err (deliver.Busy m)) q.view → delivered_by q.view.mine ≡ delivered_by p.view.mine
+  busy_made m told = ap (λ (w : View). delivered_by w.mine) told.0 ∙ ap delivered_by own
 
 -- ---- what holds of each arrival that was delivered holds of each entry
 module _ (Fits : Arrival → Type 0) where

@@ -1,5 +1,5 @@
 -- What the calls on a grid make of a pass in a live run.
-use Rattle.std.proofs.Common.{ℕ, ◌++◌, Result, Ok, Err, refl, sym, subst}
+use Rattle.std.proofs.Common.{ℕ, ◌++◌, None, Some, Result, Ok, Err, refl, sym, subst}
 use Rattle.std.specs.List.{All}
 use Rattle.std.specs.Prelude.{IfOk}
 use Rattle.std.proofs.lemmas.List.Elements.{All-append, All-same, All-weaker}
@@ -16,6 +16,8 @@ use Rattle.board_core.specs.Causes.{EntryOf, claim_of}
 use Rattle.grid_lock.specs.declared.view.View.{View}
 use Rattle.grid_lock.specs.declared.replies.TryLook.{TryLook}
 use Rattle.grid_lock.specs.declared.replies.TryLook.TheVariants as look
+use Rattle.grid_lock.specs.declared.replies.TryWaits.{TryWaits}
+use Rattle.grid_lock.specs.declared.replies.TryWaits.TheVariants as waits
 use Rattle.grid_lock.specs.declared.replies.TryClaim.{TryClaim}
 use Rattle.grid_lock.specs.declared.replies.TryClaim.TheVariants as claim
 use Rattle.grid_lock.specs.declared.replies.TryDeliver.{TryDeliver}
@@ -23,8 +25,8 @@ use Rattle.grid_lock.specs.declared.replies.TryDeliver.TheVariants as deliver
 use Rattle.grid_lock.specs.declared.replies.TryRelease.{TryRelease}
 use Rattle.grid_lock.specs.declared.replies.TryRelease.TheVariants as release
 use Rattle.grid_lock.specs.Passes.{Known, IsSamePass, IsCalm}
-use Rattle.grid_lock.specs.Answers.{AcceptsClaim, AcceptsOutcome, AcceptsRelease, RefusesClaim, RefusesOutcome, RefusesRelease, ShowsNothing, ShowsProduct}
-use Rattle.grid_lock.specs.Replies.{Looks, Claims, Delivers, Releases}
+use Rattle.grid_lock.specs.Answers.{AcceptsClaim, AcceptsOutcome, AcceptsRelease, HasNoProduct, RefusesClaim, RefusesOutcome, RefusesRelease, ShowsNothing, ShowsProduct, WaitsFor}
+use Rattle.grid_lock.specs.Replies.{AnswersWaits, Looks, Claims, Delivers, Releases}
 use Rattle.router_work.specs.Passing.{Passed}
 use Rattle.router_work.specs.Waits.{Waited}
 use Rattle.router_work.proofs.Passings.{passed_added, passed_busy, passed_found}
@@ -32,6 +34,12 @@ use Rattle.live_readout.specs.Entries.{IsTaking}
 use Rattle.live_readout.specs.inside.Workers.{IsReleaseOf}
 
 module _ (p q : Known) (same : IsSamePass p q) (calm : IsCalm q) (v : View) (waited : Waited p.view v) where
+  pub asked : (n : ℕ) (r : TryWaits) → AnswersWaits v n r q.view → Passed IsTaking p q
+  asked n waits.Ready told = passed_found IsTaking p q v same calm waited (λ b. WaitsFor b n None) told
+  asked n (waits.Waits on) told = passed_found IsTaking p q v same calm waited (λ b. WaitsFor b n (Some on)) told
+  asked n waits.Busy told = passed_busy IsTaking p q v same calm waited told
+  asked n waits.NoProduct told = passed_found IsTaking p q v same calm waited (λ b. HasNoProduct b n) told
+
   pub looked : (n : ℕ) (before after : Look) (r : Result (Unit {0}) TryLook) → Looks v n before r q.view after → Passed IsTaking p q
   looked n before after (Ok _) told = passed_found IsTaking p q v same calm waited (λ b. ShowsProduct b n after) told
   looked n before after (Err look.NoProduct) told = passed_found IsTaking p q v same calm waited (λ b. ShowsNothing b n before after) told

@@ -12,16 +12,32 @@ use board_core::{Claimed, Noted};
 use grid_lock::{Grid, Pass, TryClaim, TryDeliver, TryLook, TryRelease, TryWaits};
 use node_log::Node;
 use patch_layout::{Look, Plan};
-use router_work::{claim, deliver, look, release};
+use router_work::{claim, deliver, look, release, waits};
 use source_model::Given;
 
-/// Whether a product waits on an earlier one. Where another pass holds the turn, that isn't known yet, and the answer is no.
+/// The history's length.
+pub(crate) fn length_now(grid: &Grid, pass: &mut Pass) -> u32
+    requires grid { IsOf grid.now pass.old }
+    ensures { Passed IsTaking pass.old pass.new }
+{
+    grid.length(pass)
+}
+
+// What a product waits on.
+fn ask(grid: &Grid, pass: &mut Pass, p: u32) -> TryWaits
+    requires grid { IsOf grid.now pass.old }
+    ensures { Passed IsTaking pass.old pass.new }
+{
+    waits(grid, pass, p)
+}
+
+/// Whether a product waits on an earlier one. Where the turn was held all along, that isn't known, and the answer is no.
 pub(crate) fn is_held_back(grid: &Grid, pass: &mut Pass, p: u32) -> bool
     requires grid { IsOf grid.now pass.old }
     ensures { Passed IsTaking pass.old pass.new }
 {
-    let waits = grid.try_waits(pass, p);
-    matches!(waits, TryWaits::Waits { .. })
+    let answer = ask(grid, pass, p);
+    matches!(answer, TryWaits::Waits { .. })
 }
 
 /// Looks at a product.

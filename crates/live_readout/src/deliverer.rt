@@ -14,6 +14,7 @@ use arrival_line::{Arrival, Courier, Delivery};
 use board_core::DeliverWhy;
 use grid_lock::{Grid, Pass, TryDeliver};
 use node_log::Node;
+use router_work::{PATIENCE, deliver, outwaits};
 use source_model::Given;
 use std::alloc::Global;
 use std::marker::Model;
@@ -24,6 +25,8 @@ pub(crate) struct Deliverer<'a> {
     alloc: Global,
     grid: &'a Grid,
     pass: Pass,
+    // How often it reads the history's length in vain before it goes on to another arrival.
+    patience: u32,
 }
 
 impl<'a> Model for Deliverer<'a> {
@@ -48,7 +51,12 @@ impl<'a> Deliverer<'a> {
         ensures grid { result.grid ≡ grid.entry.now }
         ensures pass { result.pass ≡ pass }
     {
-        Deliverer { alloc, grid, pass }
+        Deliverer {
+            alloc,
+            grid,
+            pass,
+            patience: PATIENCE,
+        }
     }
 
     /// The pass.
@@ -75,8 +83,42 @@ impl<'a> Courier for Deliverer<'a> {
     ghost made = { λ d. delivered_by d.pass.view.mine };
 
     fn deliver(&mut self, arrival: Arrival) -> Delivery {
-        try_outcome(self.alloc, self.grid, &mut self.pass, arrival)
+        deliver_in_place(
+            self.alloc,
+            self.grid,
+            &mut self.pass,
+            arrival,
+            &mut self.patience,
+        )
     }
+}
+
+// Tries to deliver an outcome, again whenever the history has grown, as long as the patience lasts.
+fn deliver_in_place(
+    alloc: Global,
+    grid: &Grid,
+    pass: &mut Pass,
+    arrival: Arrival,
+    patience: &mut u32,
+) -> Delivery
+    requires grid { IsOf grid.now pass.old }
+    ensures passed { Passed IsAnyHanding pass.old pass.new }
+    ensures made { delivered_by pass.new.view.mine
+        ≡ made_after (delivered_by pass.old.view.mine) arrival result }
+{
+    let _ = pass.number();
+    for _again in 0..u32::MAX {
+        let length = grid.length(pass);
+        match try_outcome(alloc, grid, pass, arrival) {
+            Delivery::Later => {
+                if !outwaits(grid, pass, length, patience) {
+                    return Delivery::Later;
+                }
+            }
+            answer => return answer,
+        }
+    }
+    try_outcome(alloc, grid, pass, arrival)
 }
 
 // Tries to deliver an outcome, and to release its product then.
@@ -105,7 +147,7 @@ fn hand_over(alloc: Global, grid: &Grid, pass: &mut Pass, arrival: Arrival) -> D
     let (Ok(delivering), Ok(releasing)) = (Node::empty(alloc), Node::empty(alloc)) else {
         return Delivery::Later;
     };
-    match grid.try_deliver(pass, arrival.product, arrival.given, delivering) {
+    match deliver(grid, pass, arrival.product, arrival.given, delivering) {
         Ok(_) => {
             let _ = let_go(grid, pass, arrival.product, releasing);
             Delivery::Done

@@ -9,7 +9,7 @@ ghost use Rattle.router_work.specs.Passing.{Passed};
 ghost use Rattle.live_readout.specs.Entries.{IsTaking};
 ghost use Rattle.live_readout.specs.inside.Shared.{IsShared};
 
-use crate::calls::{claim_by, is_held_back, look_at, settle};
+use crate::calls::{claim_by, is_held_back, length_now, look_at, settle};
 use board_core::{ClaimWhy, DeliverWhy};
 use crossbeam_utils::Backoff;
 use grid_lock::{Grid, Pass, TryClaim, TryDeliver, TryLook};
@@ -17,7 +17,7 @@ use node_log::Node;
 use number_share::{Hand, Share};
 use patch_layout::{Layout, Look, Plan};
 use region_plan::{Planned, plan};
-use router_work::{Gate, Onward, Point};
+use router_work::{Gate, Onward, PATIENCE, Point, outwaits};
 use source_model::Kind;
 use std::alloc::Global;
 use std::marker::Model;
@@ -132,12 +132,13 @@ fn take_numbers<G: Gate>(
     ensures look { IsMadeFor shared.now.grid.now.opened look.new }
 {
     let _ = pass.number();
+    let mut patience = PATIENCE;
     let backoff = Backoff::new();
     for _try in 0..tries(shared.kinds) {
         let Some(number) = hand.take(shared.share) else {
             return;
         };
-        let tried = try_number(shared, pass, look, gate, number);
+        let tried = try_number(shared, pass, look, gate, number, &mut patience);
         put_unless(hand, number, tried.begun);
         if tried.ends {
             return;
@@ -171,13 +172,14 @@ fn pause(backoff: &Backoff, begun: bool) {
     }
 }
 
-// One try to begin a product.
+// Tries to begin a product, unless the gate says Stop.
 fn try_number<G: Gate>(
     shared: &Shared<'_>,
     pass: &mut Pass,
     look: &mut Look,
     gate: &mut G,
     number: u32,
+    patience: &mut u32,
 ) -> Tried
     requires shared { IsShared shared.now }
     requires pass { IsOf shared.now.grid.now pass.old }
@@ -193,6 +195,54 @@ fn try_number<G: Gate>(
             ends: true,
         };
     }
+    try_in_place(shared, pass, look, gate, number, patience)
+}
+
+// Tries to begin a product, again whenever the history has grown, as long as the patience lasts.
+fn try_in_place<G: Gate>(
+    shared: &Shared<'_>,
+    pass: &mut Pass,
+    look: &mut Look,
+    gate: &mut G,
+    number: u32,
+    patience: &mut u32,
+) -> Tried
+    requires shared { IsShared shared.now }
+    requires pass { IsOf shared.now.grid.now pass.old }
+    requires look { IsMadeFor shared.now.grid.now.opened look.old }
+    requires below { number < length shared.now.kinds.now }
+    ensures passed { Passed IsTaking pass.old pass.new }
+    ensures look { IsMadeFor shared.now.grid.now.opened look.new }
+{
+    let _ = pass.number();
+    for _again in 0..u32::MAX {
+        let length = length_now(shared.grid, pass);
+        let tried = begin(shared, pass, look, gate, number);
+        if tried.begun || tried.ends {
+            return tried;
+        }
+        if !outwaits(shared.grid, pass, length, patience) {
+            return tried;
+        }
+    }
+    begin(shared, pass, look, gate, number)
+}
+
+// One try to begin a product.
+fn begin<G: Gate>(
+    shared: &Shared<'_>,
+    pass: &mut Pass,
+    look: &mut Look,
+    gate: &mut G,
+    number: u32,
+) -> Tried
+    requires shared { IsShared shared.now }
+    requires pass { IsOf shared.now.grid.now pass.old }
+    requires look { IsMadeFor shared.now.grid.now.opened look.old }
+    requires below { number < length shared.now.kinds.now }
+    ensures passed { Passed IsTaking pass.old pass.new }
+    ensures look { IsMadeFor shared.now.grid.now.opened look.new }
+{
     if let Kind::Settle { .. } = shared.kinds[number as usize] {
         return settle_number(shared, pass, gate, number);
     }

@@ -1,5 +1,5 @@
 -- What a step of a factory, accepted or refused, says of the pass that asked for it.
-use Rattle.std.proofs.Common.{◌≡◌, ℕ, ◌+◌, ◌<◌, ◌≤◌, List, [], ◌∷◌, ◌++◌, length, Ok, Err, refl, sym, ap, ◌∙◌, subst, arith, length-append}
+use Rattle.std.proofs.Common.{◌≡◌, ℕ, ◌<◌, ◌≤◌, List, [], ◌∷◌, ◌++◌, length, Result, Ok, Err, refl, sym, ap, subst, arith, length-append}
 use denote.RawPtr.{Ptr}
 use Rattle.magic_pool.specs.declared.Stepped.{Stepped}
 use Rattle.board_core.specs.declared.Entry.{Entry}
@@ -13,6 +13,7 @@ use Rattle.board_core.specs.Causes.{StepRefusedBecause}
 use Rattle.patch_layout.specs.Grid.{HasStore}
 use Rattle.grid_lock.specs.declared.view.View.{View}
 use Rattle.grid_lock.specs.Views.{Extends}
+use Rattle.grid_lock.specs.declared.replies.TryStep.{TryStep}
 use Rattle.grid_lock.specs.declared.replies.TryStep.TheVariants as step
 use Rattle.grid_lock.specs.Passes.{Known, Named, IsOf, IsSamePass, IsCalm}
 use Rattle.grid_lock.specs.Replies.{Accepts, Finds, Steps}
@@ -20,8 +21,8 @@ use Rattle.grid_lock.specs.Answers.{AcceptsStep, RefusesStep}
 use Rattle.router_work.specs.Passing.{IsStepOf, Passed, seen_board}
 use Rattle.router_work.specs.Routing.{HasFactory}
 use Rattle.router_work.specs.Ends.{IsFull, TurnedMore}
-use Rattle.router_work.specs.Waits.{Waited}
-use Rattle.router_work.proofs.Passings.{passed_on, passed_added, passed_found, turned_found}
+use Rattle.router_work.specs.Waits.{OnlyRead, Waited}
+use Rattle.router_work.proofs.Passings.{passed_on, passed_added, passed_found, passed_step, turned_found}
 
 module _ (p q : Known) (v : View) (waited : Waited p.view v) where
   no_less : (log : List Noted) → Extends log v.seen → length p.view.seen ≤ length log
@@ -63,3 +64,19 @@ module _ (s p q : Known) (f : ℕ) (node : Ptr) (went : Passed (IsStepOf f) s p)
         turned_found (IsStepOf f) p q told.0 same calm told.1 (λ b. RefusesStep b f r.why) found,
         full g q f r.why told.0 of has found,
       )
+
+  -- the same of a result that is such a refusal
+  pub refused_as : (g : Named) (r : BoardStepRefused) (result : Result (ℕ × Stepped) TryStep) → result ≡ Err (step.Refused r) → IsOf g q → HasFactory g f
+      → ((v : View) × Waited p.view v × Steps v f node result q.view) → Passed (IsStepOf f) s q × TurnedMore 1 p q × IsFull q f
+  refused_as g r result is of has told =
+      refused g r of has (subst (λ x. (v : View) × Waited p.view v × Steps v f node x q.view) is told)
+
+-- a step, whatever came of it
+pub stepped : (f : ℕ) (s p q : Known) (node : Ptr) (result : Result (ℕ × Stepped) TryStep) → Passed (IsStepOf f) s p → IsSamePass p q → IsCalm q
+    → ((v : View) × Waited p.view v × Steps v f node result q.view) → Passed (IsStepOf f) s q
+stepped f s p q node result went same calm told =
+    passed_on (IsStepOf f) s p q went (passed_step (IsStepOf f) p q told.0 f node result refl same calm told.1 told.2)
+
+-- a factory that is full stays so while lengths are read
+pub full_read : (p q : Known) (f : ℕ) → OnlyRead p.view q.view → IsFull p f → IsFull q f
+full_read p q f is full = subst (λ (u : View). IsFull (record p { view = u }) f) (sym is) full

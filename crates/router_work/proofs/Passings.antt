@@ -23,7 +23,7 @@ use Rattle.grid_lock.proofs.Lists.{extends_longer, all_more}
 use Rattle.router_work.specs.Passing.{Passed}
 use Rattle.router_work.specs.Tries.{IsBegun}
 use Rattle.router_work.specs.Ends.{TurnedMore}
-use Rattle.router_work.specs.Waits.{Waited}
+use Rattle.router_work.specs.Waits.{OnlyRead, Waited}
 
 -- ---- histories that extend one another
 pub extends_same : (log : List Noted) → Extends log log
@@ -123,22 +123,28 @@ passed_step Makes p q v f node (Ok r) makes same calm waited told = passed_added
 passed_step Makes p q v f node (Err (step.Refused r)) makes same calm waited told = passed_found Makes p q v same calm waited (λ b. RefusesStep b f r.why) told.0
 passed_step Makes p q v f node (Err (step.Busy n)) makes same calm waited told = passed_busy Makes p q v same calm waited told.0
 
--- the history's length was asked
-pub passed_measured : (Makes : Entry → Type 0) (p q : Known) (n : ℕ) → IsSamePass p q → IsCalm q → Measures p.view n q.view → Passed Makes p q
-passed_measured Makes p q n same calm told =
-    let e = told.2 in
-    let m : q.view.met ≡ p.view.met = ap (λ (u : View). u.met) e in
-    let t : q.view.turns ≡ p.view.turns = ap (λ (u : View). u.turns) e in
+pub only_read : (v : View) (n : ℕ) (w : View) → Measures v n w → OnlyRead v w
+only_read v n w told = subst (λ (u : View). OnlyRead v u) (sym told.2) refl
+
+-- the history's length was read, any number of times
+pub passed_read : (Makes : Entry → Type 0) (p q : Known) → IsSamePass p q → IsCalm q → OnlyRead p.view q.view → Passed Makes p q
+passed_read Makes p q same calm is =
+    let m : q.view.met ≡ p.view.met = ap (λ (u : View). u.met) is in
+    let t : q.view.turns ≡ p.view.turns = ap (λ (u : View). u.turns) is in
     record {
       same = same;
       calm = calm;
-      seen = ([], ap (λ (u : View). u.seen) e ∙ sym (append-nil p.view.seen));
+      seen = ([], ap (λ (u : View). u.seen) is ∙ sym (append-nil p.view.seen));
       added = [];
-      mine = ap (λ (u : View). u.mine) e ∙ sym (append-nil p.view.mine);
+      mine = ap (λ (u : View). u.mine) is ∙ sym (append-nil p.view.mine);
       makes = All-nil (λ (n : Noted). Makes n.entry);
       met = omega arith;
       turns = omega arith;
     }
+
+-- the history's length was asked
+pub passed_measured : (Makes : Entry → Type 0) (p q : Known) (n : ℕ) → IsSamePass p q → IsCalm q → Measures p.view n q.view → Passed Makes p q
+passed_measured Makes p q n same calm told = passed_read Makes p q same calm (only_read p.view n q.view told)
 
 -- ---- what stays as a history goes on
 pub place_stays : {A : Type 0} (test : A → Bool) (xs ys : List A) → IsSome (position test xs) → IsSome (position test (xs ++ ys))

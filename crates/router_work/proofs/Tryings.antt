@@ -51,8 +51,8 @@ use Rattle.router_work.specs.declared.attempt.Attempt.{Attempt}
 use Rattle.router_work.specs.declared.attempt.Attempt.TheVariants as attempt
 use Rattle.router_work.specs.declared.attempt.Tried.{Tried}
 use Rattle.router_work.specs.inside.Steps.{Calls, GivesWay, Goes, IsAsked, IsOutcomeAt, IsTried, is_taken}
-use Rattle.router_work.specs.Waits.{AfterWaiting, Waited}
-use Rattle.router_work.proofs.Passings.{begun_on, extends_on, extends_same, passed_added, passed_busy, passed_found, passed_measured, passed_none, passed_on, some_on, turned_added, turned_found}
+use Rattle.router_work.specs.Waits.{AfterWaiting, OnlyRead, Waited}
+use Rattle.router_work.proofs.Passings.{begun_on, extends_on, extends_same, passed_added, passed_busy, passed_found, passed_measured, passed_none, passed_on, passed_read, some_on, turned_added, turned_found}
 use Rattle.router_work.proofs.Histories.{accepted_there, claimed_there, delivered_after, delivered_on, get_on, has_kind, has_product, released_after, settled_after, settled_there, waiting_unclaimed, wants_no_claim}
 
 -- ---- what each call told
@@ -130,6 +130,9 @@ goes_by_fields r was s is same passed stops = subst (λ (x : Routing). Goes x s)
 
 pub goes_measured : (r s : Routing) (n : ℕ) → Calls r s → Measures r.pass.view n s.pass.view → Goes r s
 goes_measured r s n c told = goes_called r s c (passed_measured (IsRouted r.given) r.pass s.pass n c.same c.calm told)
+
+pub goes_read : (r s : Routing) → Calls r s → OnlyRead r.pass.view s.pass.view → Goes r s
+goes_read r s c is = goes_called r s c (passed_read (IsRouted r.given) r.pass s.pass c.same c.calm is)
 
 -- ---- how a try ends
 rose_then : (a b c : ℕ) → Rose a b → b ≤ c → Rose a c

@@ -13,7 +13,7 @@ ghost use Rattle.grid_lock.specs.declared.replies.TryDeliver.TheVariants as deli
 ghost use Rattle.grid_lock.specs.declared.replies.TryRelease.TheVariants as releases;
 ghost use Rattle.grid_lock.specs.declared.replies.TryStep.TheVariants as steps;
 ghost use Rattle.router_work.specs.Ends.{MetMore};
-ghost use Rattle.router_work.specs.Waits.{AfterWaiting};
+ghost use Rattle.router_work.specs.Waits.{AfterWaiting, OnlyRead};
 
 use board_core::{Claimed, Noted};
 use crossbeam_utils::Backoff;
@@ -26,8 +26,34 @@ use source_model::Given;
 /// How many answers Busy in a row are enough.
 pub(crate) const BUSY: u32 = 1_048_576;
 
-/// Says what a product waits on.
-pub(crate) fn waits(grid: &Grid, pass: &mut Pass, p: u32) -> TryWaits
+/// How often a worker reads the history's length in vain, at first, before it gives up what it waits for: some milliseconds,
+/// so that another worker that the system has put aside meanwhile comes back in time.
+pub const PATIENCE: u32 = 16_384;
+
+/// Waits until the history is longer than this, as long as the patience lasts: for so many reads of its length, which take no
+/// turn. Each wait in vain halves the patience.
+pub fn outwaits(grid: &Grid, pass: &mut Pass, length: u32, patience: &mut u32) -> bool
+    requires grid { IsOf grid.now pass.old }
+    ensures grid { IsOf grid.now pass.new }
+    ensures same { IsSamePass pass.old pass.new }
+    ensures read { OnlyRead pass.old.view pass.new.view }
+    ensures rests { IsCalm pass.new }
+{
+    let _ = pass.number();
+    let backoff = Backoff::new();
+    for _read in 0..*patience {
+        if grid.length(pass) > length {
+            return true;
+        }
+        backoff.snooze();
+    }
+    *patience /= 2;
+    false
+}
+
+/// Says what a product waits on as `Grid::try_waits` does, tried again while the turn is held. `Busy` says that the turn was
+/// found held 1,048,576 times in a row.
+pub fn waits(grid: &Grid, pass: &mut Pass, p: u32) -> TryWaits
     requires grid { IsOf grid.now pass.old }
     ensures grid { IsOf grid.now pass.new }
     ensures same { IsSamePass pass.old pass.new }

@@ -11,7 +11,7 @@ mod routing;
 mod worker;
 
 pub use attempt::Attempt;
-pub use calls::{claim, deliver, look, release};
+pub use calls::{PATIENCE, claim, deliver, look, outwaits, release, waits};
 pub use gate::{Gate, NoGate, Onward, Point, StopAt};
 pub use maker::{Maker, MakerEnd};
 pub use router::{Router, RouterEnd};

@@ -1,15 +1,18 @@
 //! Makers.
 
-ghost use Rattle.std.specs.Prelude.{◌≡◌, ◌<◌, ◌≤◌, ℕ, ◌^◌, length};
+ghost use Rattle.std.specs.Prelude.{◌≡◌, ◌<◌, ◌≤◌, ℕ, ◌^◌, length, IfOk};
+ghost use denote.RawPtr.{Ptr};
+ghost use Rattle.board_core.specs.declared.board.BoardStepRefused.{BoardStepRefused as Refusals};
 ghost use Rattle.grid_lock.specs.Passes.{IsOf};
+ghost use Rattle.grid_lock.specs.declared.replies.TryStep.TheVariants as steps;
 ghost use Rattle.router_work.specs.Passing.{IsStepOf, Passed};
 ghost use Rattle.router_work.specs.Routing.{HasFactory};
-ghost use Rattle.router_work.specs.Ends.{MakerEnds};
+ghost use Rattle.router_work.specs.Ends.{IsFull, MakerEnds, MetMore, TurnedMore};
 
-use crate::calls::step;
-use board_core::BoardStepWhy;
-use crossbeam_utils::Backoff;
+use crate::calls::{PATIENCE, outwaits, step};
+use board_core::{BoardStepWhy, Noted};
 use grid_lock::{Grid, Pass, TryStep};
+use magic_pool::Stepped;
 use node_log::Node;
 use std::alloc::Global;
 use std::marker::Model;
@@ -94,13 +97,12 @@ fn fill(alloc: Global, grid: &Grid, pass: &mut Pass, factory: u32) -> MakerEnd
     let Ok(mut node) = Node::empty(alloc) else {
         return MakerEnd::Memory;
     };
+    let mut patience = PATIENCE;
     let mut refusals = 0;
-    let backoff = Backoff::new();
     while refusals < REFUSALS {
-        match step(grid, pass, factory, node) {
+        match step_in_place(grid, pass, factory, node, &mut patience) {
             Ok(_) => {
                 refusals = 0;
-                backoff.reset();
                 match Node::empty(alloc) {
                     Ok(next) => node = next,
                     Err(_) => return MakerEnd::Memory,
@@ -109,10 +111,45 @@ fn fill(alloc: Global, grid: &Grid, pass: &mut Pass, factory: u32) -> MakerEnd
             Err(TryStep::Busy { .. }) => return MakerEnd::Busy,
             Err(TryStep::Refused(refused)) => {
                 refusals += 1;
-                backoff.snooze();
                 node = refused.node;
             }
         }
     }
     MakerEnd::Stocked
+}
+
+// Steps a factory, tried again whenever the history has grown, as long as the patience lasts: a router may have taken a state.
+fn step_in_place(
+    grid: &Grid,
+    pass: &mut Pass,
+    factory: u32,
+    node: Node<Noted>,
+    patience: &mut u32,
+) -> Result<(u32, Stepped), TryStep>
+    requires grid { IsOf grid.now pass.old }
+    requires factory { HasFactory grid.now factory }
+    ensures grid { IsOf grid.now pass.new }
+    ensures passed { Passed (IsStepOf factory) pass.old pass.new }
+    ensures longer { IfOk result (λ _.
+        length pass.old.view.seen < length pass.new.view.seen) }
+    ensures full { (r : Refusals) → result ≡ Err (steps.Refused r)
+        → TurnedMore 1 pass.old pass.new × IsFull pass.new factory }
+    ensures busy { (n : Ptr) → result ≡ Err (steps.Busy n) → MetMore 1048576 pass.old pass.new }
+{
+    let _ = pass.number();
+    let mut node = node;
+    for _again in 0..u32::MAX {
+        let length = grid.length(pass);
+        match step(grid, pass, factory, node) {
+            Ok(stepped) => return Ok(stepped),
+            Err(TryStep::Busy { node }) => return Err(TryStep::Busy { node }),
+            Err(TryStep::Refused(refused)) => {
+                if !outwaits(grid, pass, length, patience) {
+                    return Err(TryStep::Refused(refused));
+                }
+                node = refused.node;
+            }
+        }
+    }
+    step(grid, pass, factory, node)
 }

@@ -23,11 +23,11 @@ ghost use Rattle.router_work.specs.Routing.{IsSameRouter, IsSetUp};
 ghost use Rattle.router_work.specs.Tries.{Answered, ClaimsAt, IsBegun, IsPlanned, IsSettled, LookedBefore};
 ghost use Rattle.router_work.specs.Ends.{AttemptEnds, LosesNone, MetMore, RouterEnds, TurnedMore};
 ghost use Rattle.router_work.specs.inside.Steps.{Calls, Goes, GivesWay, HoldsOn, IsAsked, IsCutShort, IsOutcomeAt, IsTried, end_of};
-ghost use Rattle.router_work.specs.Waits.{AfterWaiting};
+ghost use Rattle.router_work.specs.Waits.{AfterWaiting, OnlyRead};
 ghost use Rattle.region_plan.specs.declared.answer.Planned.TheVariants as planneds;
 
 use crate::attempt::{Attempt, Tried};
-use crate::calls::{claim, deliver, look, release, waits};
+use crate::calls::{PATIENCE, claim, deliver, look, outwaits, release, waits};
 use crate::gate::{Gate, Onward, Point};
 use board_core::{ClaimWhy, Claimed, DeliverWhy, Noted};
 use grid_lock::{Grid, Pass, TryClaim, TryDeliver, TryLook, TryRelease, TryWaits};
@@ -72,6 +72,8 @@ pub struct Router<'a, G: Gate> {
     look: Look,
     planner: KeepingPlanner,
     gate: G,
+    // How often it reads the history's length in vain before it gives a number up.
+    patience: u32,
 }
 
 impl<'a, G: Gate> Model for Router<'a, G> {
@@ -127,6 +129,7 @@ impl<'a, G: Gate> Router<'a, G> {
             look,
             planner: KeepingPlanner::new(alloc),
             gate,
+            patience: PATIENCE,
         }
     }
 
@@ -155,7 +158,7 @@ impl<'a, G: Gate> Router<'a, G> {
     }
 
     /// Takes numbers and makes an attempt for each, until there is none left, or its gate, the tries, the turn or the memory
-    /// end it. A number whose product isn't begun is put back.
+    /// end it. A number whose product isn't begun is put back, once attempts made as the history grew don't begin it either.
     pub fn work(&mut self) -> RouterEnd
         ensures same { IsSameRouter self.old self.new }
         ensures passed { Passed (IsRouted self.old.given) self.old.pass self.new.pass }
@@ -224,7 +227,7 @@ impl<'a, G: Gate> Router<'a, G> {
             self.put(number);
             return Some(RouterEnd::Stopped);
         }
-        let tried = self.carry(number);
+        let tried = self.carry_in_place(number);
         self.put_unless(tried.begun, number);
         end_after(tried.answer)
     }
@@ -248,6 +251,33 @@ impl<'a, G: Gate> Router<'a, G> {
         ensures stopped { result ≡ true → Rose self.old.stops self.new.stops }
     {
         says_stop(&mut self.gate, point)
+    }
+
+    // Carries out a product, tried again whenever the history has grown, as long as the router's patience lasts.
+    fn carry_in_place(&mut self, number: u32) -> Tried
+        requires below { number < length self.old.given }
+        ensures tried { IsTried self.old number result self.new }
+    {
+        self.rests();
+        for _again in 0..u32::MAX {
+            let length = self.length_now();
+            let tried = self.carry(number);
+            if is_over(&tried) {
+                return tried;
+            }
+            if !self.outwaits(length) {
+                return tried;
+            }
+        }
+        self.carry(number)
+    }
+
+    // Waits until the history is longer than this, as long as the router's patience lasts.
+    fn outwaits(&mut self, length: u32) -> bool
+        ensures calls { Calls self.old self.new }
+        ensures read { OnlyRead self.old.pass.view self.new.pass.view }
+    {
+        outwaits(self.grid, &mut self.pass, length, &mut self.patience)
     }
 
     fn carry(&mut self, number: u32) -> Tried
@@ -653,6 +683,11 @@ fn says_stop<G: Gate>(gate: &mut G, point: Point) -> bool
 // Whether the planner has a region.
 fn is_region(planned: &Planned) -> bool {
     matches!(planned, Planned::Region(_))
+}
+
+// Whether nothing is left to try: the product is begun, or the try ends the router.
+fn is_over(tried: &Tried) -> bool {
+    tried.begun || end_after(tried.answer).is_some()
 }
 
 // The end of a router's work that an attempt brings about, if it does.

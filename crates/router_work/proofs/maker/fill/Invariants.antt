@@ -1,4 +1,4 @@
-use Rattle.std.proofs.Common.{ℕ, ◌+◌, ◌-◌, ◌*◌, ◌<◌, ◌≤◌, length}
+use Rattle.std.proofs.Common.{◌+◌, ◌-◌, ◌*◌, ◌<◌, ◌≤◌, length}
 use Rattle.router_work.specs.Passing.{IsStepOf, Passed}
 use Rattle.router_work.specs.Ends.{IsFull}
 use Rattle.router_work.proofs.maker.fill.Given as goal

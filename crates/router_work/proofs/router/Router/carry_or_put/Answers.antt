@@ -13,5 +13,5 @@ returns-then-is_stopped-clause-begun g c = λ inside.
 
 pub returns-clause-begun : goal.returns-clause-begun
 returns-clause-begun g c = λ inside.
-    let tried = c.carry-tried.ensures.tried in
+    let tried = c.carry_in_place-tried.ensures.tried in
     subst (λ (p : Known). IsBegun p c.args.number) (sym (ap (λ (r : Routing). r.pass) c.put_unless.ensures.hand)) (tried.begun (c.put_unless.ensures.begun inside))
