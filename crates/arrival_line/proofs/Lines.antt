@@ -6,7 +6,8 @@ use Rattle.crossbeam_channel.specs.Fifo.{Pushes, Pops, Forks, Merges, Learns}
 use Rattle.atomic_table.proofs.Lists.{at_set, at_snoc}
 use Rattle.arrival_line.specs.declared.arrival.Message.{Message}
 use Rattle.arrival_line.specs.declared.arrival.Traffic.{Traffic}
-use Rattle.arrival_line.specs.Line.{traffic, Fits, InOrder}
+use Rattle.arrival_line.specs.Line.{traffic}
+use Rattle.arrival_line.specs.inside.Line.{Fits, InOrder}
 use Rattle.arrival_line.specs.Messages.{is_open, ends_last}
 use Rattle.arrival_line.proofs.Words.{ends-snoc, ends-prefix}
 

@@ -7,25 +7,25 @@ use Rattle.arrival_line.specs.declared.arrival.Message.{Message}
 use Rattle.arrival_line.specs.declared.arrival.Message.TheVariants.{Arrived, End}
 use Rattle.arrival_line.specs.declared.receive.Next.{Next}
 use Rattle.arrival_line.specs.declared.receive.Next.TheVariants.{Ended, Closed}
-use Rattle.arrival_line.specs.inside.Came.{came, next_of, IsEnd}
+use Rattle.arrival_line.specs.inside.Came.{came, what_came, IsEnd}
 use Rattle.arrival_line.specs.Line.{traffic}
 use Rattle.arrival_line.specs.Messages.{arrivals, is_open}
 use Rattle.arrival_line.specs.Strays.{Delivers}
 use Rattle.arrival_line.proofs.Inboxes.{delivers_more}
 use Rattle.arrival_line.proofs.Words.{arrivals-append, closed-snoc}
 
-came_one : (m : Message) → arrivals (m ∷ []) ≡ came (next_of m)
+came_one : (m : Message) → arrivals (m ∷ []) ≡ came (what_came m)
 came_one (Arrived a) = refl
 came_one End = refl
 
-module _ (v w : Traffic) (m : Message) (r : Next) (is : r ≡ next_of m) (after : w ≡ traffic v.sends v.receives v.sent (v.got ++ m ∷ [])) where
+module _ (v w : Traffic) (m : Message) (r : Next) (is : r ≡ what_came m) (after : w ≡ traffic v.sends v.receives v.sent (v.got ++ m ∷ [])) where
   pub came_all : arrivals w.got ≡ arrivals v.got ++ came r
   came_all = ap (λ (u : Traffic). arrivals u.got) after ∙ arrivals-append v.got (m ∷ []) ∙ ap (λ l. arrivals v.got ++ l) (came_one m ∙ ap came (sym is))
 
   pub came_end : IsEnd r → is_open w.got ≡ false
   came_end e = let P : Next → Type 0 = IsEnd in ap (λ (u : Traffic). is_open u.got) after ∙ at_end m (subst P is e)
     where
-      at_end : (n : Message) → IsEnd (next_of n) → is_open (v.got ++ n ∷ []) ≡ false
+      at_end : (n : Message) → IsEnd (what_came n) → is_open (v.got ++ n ∷ []) ≡ false
       at_end (Arrived a) h = absurd h
       at_end End h = closed-snoc v.got
 

@@ -1,3 +1,4 @@
 pub mod Came
 pub mod Feeds
 pub mod Inboxes
+pub mod Line

@@ -11,7 +11,8 @@ pub struct Ordered;
 
 impl Protocol<Message, Traffic> for Ordered {
     ghost use Rattle.std.specs.Prelude.{true, []};
-    ghost use Rattle.arrival_line.specs.Line.{traffic, InOrder};
+    ghost use Rattle.arrival_line.specs.Line.{traffic};
+    ghost use Rattle.arrival_line.specs.inside.Line.{InOrder};
 
     ghost holds = { InOrder };
 

@@ -4,7 +4,7 @@ ghost use Rattle.std.specs.Bool.{OnTrue};
 ghost use Rattle.crossbeam_channel.specs.Claims.{view, IsSeatAt};
 ghost use Rattle.crossbeam_channel.specs.Ends.{receives_on};
 ghost use Rattle.arrival_line.specs.Line.{traffic};
-ghost use Rattle.arrival_line.specs.inside.Came.{came, next_of, IsEnd};
+ghost use Rattle.arrival_line.specs.inside.Came.{came, what_came, IsEnd};
 ghost use Rattle.arrival_line.specs.declared.arrival.Arrival.{Arrival};
 ghost use Rattle.arrival_line.specs.Messages.{arrivals, is_open};
 ghost use Rattle.arrival_line.specs.Strays.{Delivers};
@@ -35,7 +35,7 @@ pub struct Received<C: Courier> {
 }
 
 fn as_next(message: Message) -> Next
-    ensures { result ≡ next_of message }
+    ensures { result ≡ what_came message }
 {
     match message {
         Message::Arrived(arrival) => Next::Came(arrival),

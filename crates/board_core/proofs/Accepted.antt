@@ -30,7 +30,7 @@ use Rattle.board_core.specs.declared.board.ReleaseWhy.TheVariants as release
 use Rattle.board_core.specs.declared.board.BoardStepWhy.{BoardStepWhy}
 use Rattle.board_core.specs.declared.board.BoardStepWhy.TheVariants as step
 use Rattle.board_core.specs.History.{History, delivered, claim_place, done_place}
-use Rattle.board_core.specs.Legal.{Job, Allowed, IsKind, TakesState, FlipOf, Ready}
+use Rattle.board_core.specs.Legal.{BoardJob, Allowed, IsKind, TakesState, FlipOf, Ready}
 use Rattle.board_core.specs.View.{WaitsOn}
 use Rattle.board_core.specs.Position.{Position, past, IsLegal}
 use Rattle.board_core.specs.Books.{TakesRegion, HasMakersOf}
@@ -42,12 +42,12 @@ none_is : {A : Type 0} (o : Option A) → IsSome o → o ≡ None → ⊥
 none_is o s n = true≢false (sym s ∙ ap is_some n)
 
 -- ---- a claim
-state_region : (j : Job) (h : History) (k : Kind) (through state : Option ℕ) → TakesState j h k through state → TakesRegion k
+state_region : (j : BoardJob) (h : History) (k : Kind) (through state : Option ℕ) → TakesState j h k through state → TakesRegion k
 state_region j h kind.Rotation through state t = tt
 state_region j h (kind.Measure bit) through state t = tt
 state_region j h (kind.Settle first size value) through state t = t
 
-state_port : (j : Job) (h : History) (k : Kind) (through state : Option ℕ) → TakesState j h k through state → is_some through ≡ is_rotation k
+state_port : (j : BoardJob) (h : History) (k : Kind) (through state : Option ℕ) → TakesState j h k through state → is_some through ≡ is_rotation k
 state_port j h kind.Rotation through state t = ap is_some t.2
 state_port j h (kind.Measure bit) through state t = ap is_some t.0
 state_port j h (kind.Settle first size value) through state t = absurd t

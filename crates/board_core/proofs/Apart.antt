@@ -13,13 +13,13 @@ use Rattle.board_core.specs.declared.Entry.{Entry}
 use Rattle.board_core.specs.declared.Entry.TheVariants.{Claim, Deliver, Release, Settle}
 use Rattle.board_core.specs.declared.Entry.TheVariants as entry
 use Rattle.board_core.specs.History.{History, states_in, taken_states, is_release_of}
-use Rattle.board_core.specs.Legal.{Job, Allowed, Legal, Holds, TakesState}
+use Rattle.board_core.specs.Legal.{BoardJob, Allowed, Legal, Holds, TakesState}
 use Rattle.board_core.proofs.LegalOrder.{at_end}
 use Rattle.board_core.proofs.Going.{get_take, none_take}
 
 -- ---- cells
 -- who holds a cell claimed no later than another one who does
-earlier : (j : Job) (h : History) (p q c : ℕ) (x : Holds j.grid h p c) (y : Holds j.grid h q c) → Legal j h → x.0 < y.0 → ⊥
+earlier : (j : BoardJob) (h : History) (p q c : ℕ) (x : Holds j.grid h p c) (y : Holds j.grid h q c) → Legal j h → x.0 < y.0 → ⊥
 earlier j h p q c x y legal l =
     let a = legal y.0 (Claim q y.1 y.2 y.3 y.4) y.5 in
     a.free c p y.7 (x.0, x.1, x.2, x.3, x.4, get_take h y.0 x.0 l ∙ x.5, none_take (is_release_of p) h y.0 x.6, x.7)
@@ -34,7 +34,7 @@ claimer (Release p) = p
 claimer (entry.Step f) = f
 claimer (Settle p flip) = p
 
-pub one_holder : (j : Job) (h : History) (p q c : ℕ) → Legal j h → Holds j.grid h p c → Holds j.grid h q c → p ≡ q
+pub one_holder : (j : BoardJob) (h : History) (p q c : ℕ) → Legal j h → Holds j.grid h p c → Holds j.grid h q c → p ≡ q
 one_holder j h p q c legal x y =
     elim (cases_order x.0 y.0) [
       | inl s ↦ ap claimer (same_claim h x.0 y.0 (Claim p x.1 x.2 x.3 x.4) (Claim q y.1 y.2 y.3 y.4) s x.5 y.5)
@@ -63,7 +63,7 @@ not_taken (t ∷ ts) s e (suc k) d l = not_taken ts s ((or_parts (t == s) (is_ta
 abbrev Once : List ℕ → Type 0
 Once ss = AllPairs (λ s t. s ≢ t) ss
 
-state_once : (j : Job) (h : History) (k : Kind) (through : Option ℕ) (s : ℕ) → TakesState j h k through (Some s) → Once (taken_states h) → Once (taken_states h ++ s ∷ [])
+state_once : (j : BoardJob) (h : History) (k : Kind) (through : Option ℕ) (s : ℕ) → TakesState j h k through (Some s) → Once (taken_states h) → Once (taken_states h ++ s ∷ [])
 state_once j h kind.Rotation through s t once =
     let e = same_Some s t.1 t.3 in
     all_pairs_push (λ s t. s ≢ t) (taken_states h) s once
@@ -71,7 +71,7 @@ state_once j h kind.Rotation through s t once =
 state_once j h (kind.Measure bit) through s t once = absurd (none-some s (sym t.1))
 state_once j h (kind.Settle first size value) through s t once = absurd t
 
-one_more_once : (j : Job) (h : History) (e : Entry) → Allowed j h e → Once (taken_states h) → Once (taken_states h ++ states_in e)
+one_more_once : (j : BoardJob) (h : History) (e : Entry) → Allowed j h e → Once (taken_states h) → Once (taken_states h ++ states_in e)
 one_more_once j h (Claim p axis through None cells) a once = rw (append-nil (taken_states h)) once
 one_more_once j h (Claim p axis through (Some s) cells) a once = state_once j h a.product.0.kind through s a.product.2 once
 one_more_once j h (Deliver p g) a once = rw (append-nil (taken_states h)) once
@@ -82,12 +82,12 @@ one_more_once j h (Settle p flip) a once = rw (append-nil (taken_states h)) once
 pub taken-push : (h : History) (e : Entry) → taken_states (h ++ e ∷ []) ≡ taken_states h ++ states_in e
 taken-push h e = flat_map-append states_in h (e ∷ []) ∙ ap (λ x. taken_states h ++ x) (append-nil (states_in e))
 
-once_on : (j : Job) (h es : History) → Legal j (h ++ es) → Once (taken_states h) → Once (taken_states (h ++ es))
+once_on : (j : BoardJob) (h es : History) → Legal j (h ++ es) → Once (taken_states h) → Once (taken_states (h ++ es))
 once_on j h [] legal once = rw (append-nil h) once
 once_on j h (e ∷ es) legal once =
     let more : (h ++ e ∷ []) ++ es ≡ h ++ e ∷ es = append_assoc h (e ∷ []) es in
     let here : Allowed j h e = rw (take_at h (e ∷ es) (length h) refl) at (legal (length h) e (at_end h e es)) in
     rw more at (once_on j (h ++ e ∷ []) es (rw more legal) (rw (taken-push h e) (one_more_once j h e here once)))
 
-pub states_once : (j : Job) (h : History) → Legal j h → Once (taken_states h)
+pub states_once : (j : BoardJob) (h : History) → Legal j h → Once (taken_states h)
 states_once j h legal = once_on j [] h legal (λ i k d l m. absurd (omega arith))

@@ -17,11 +17,12 @@ use Rattle.board_core.specs.declared.board.Standing.{Standing}
 use Rattle.board_core.specs.Limits.{WithinLimits}
 use Rattle.board_core.specs.Suits.{IsOpenFor, HaveLetters}
 use Rattle.board_core.specs.Laws.{ProductsOfLength}
-use Rattle.board_core.specs.Bits.{BitIs}
-use Rattle.board_core.specs.Books.{NamesBelow, BitsReach, HasMakersOf}
+use Rattle.board_core.specs.inside.Bits.{BitIs}
+use Rattle.board_core.specs.Books.{HasMakersOf}
+use Rattle.board_core.specs.inside.Books.{NamesBelow, BitsReach}
 use Rattle.board_core.specs.Uses.{IsOrderOf, all_axes}
 use Rattle.board_core.specs.Position.{job_with}
-use Rattle.board_core.specs.Kept.{Kept}
+use Rattle.board_core.specs.inside.Kept.{Kept}
 use Rattle.board_core.proofs.Going.{legal_empty}
 use Rattle.board_core.proofs.Tables.{entry_of}
 

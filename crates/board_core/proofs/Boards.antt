@@ -7,11 +7,11 @@ use Rattle.board_core.specs.declared.Noted.{Noted}
 use Rattle.board_core.specs.declared.board.Standing.{Standing}
 use Rattle.board_core.specs.declared.Entry.{Entry}
 use Rattle.board_core.specs.History.{History, entries}
-use Rattle.board_core.specs.Legal.{Job, Allowed}
+use Rattle.board_core.specs.Legal.{BoardJob, Allowed}
 use Rattle.board_core.specs.Position.{Position, IsLegal, past, note, job_with}
 use Rattle.board_core.specs.Books.{standing_of}
 use Rattle.board_core.specs.Causes.{IsProduct}
-use Rattle.board_core.specs.Kept.{Tables, Kept, HasProduct}
+use Rattle.board_core.specs.inside.Kept.{Tables, Kept, HasProduct}
 use Rattle.board_core.proofs.KeptLegal.{position, kept_legal, goes, Goes, past_length}
 
 module _ (products : List Static) (grid : Grid) (t : Tables) (log : List Noted) (b : Position) (is : position products grid t log ≡ b) (k : Kept (job_with products grid t.pool) (entries log) t) where
@@ -42,7 +42,7 @@ module _ (products : List Static) (grid : Grid) (t : Tables) (log : List Noted) 
   pub covers : (p : ℕ) (s : Static) → IsProduct b p s → HasProduct t p
   covers p s e = record { job = b.job; past = past b; kept = kept_at; within = slice_get_within b.job.products p s e }
 
-  pub went : (u : Tables) (new : List Noted) (by place : ℕ) (e : Entry) → Allowed b.job (past b) e → place ≡ length log → new ≡ log ++ note by e ∷ [] → ((j : Job) (h : History) → Kept j h t → Allowed j h e → place ≡ length h → Kept j (h ++ e ∷ []) u) → Goes products grid log new t u by e
+  pub went : (u : Tables) (new : List Noted) (by place : ℕ) (e : Entry) → Allowed b.job (past b) e → place ≡ length log → new ≡ log ++ note by e ∷ [] → ((j : BoardJob) (h : History) → Kept j h t → Allowed j h e → place ≡ length h → Kept j (h ++ e ∷ []) u) → Goes products grid log new t u by e
   went u new by place e a at pushed noted =
       goes products grid log new t u by e
       (noted (job_with products grid t.pool) (entries log) k (subst (λ (p : Position). Allowed p.job (past p) e) (sym is) a) (at ∙ sym (past_length log))) pushed

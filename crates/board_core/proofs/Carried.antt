@@ -9,7 +9,7 @@ use Rattle.patch_layout.specs.declared.look.Look.{Look}
 use Rattle.board_core.specs.declared.Entry.{Entry}
 use Rattle.board_core.specs.declared.Entry.TheVariants.{Claim}
 use Rattle.board_core.specs.History.{History, claim_place, done_place}
-use Rattle.board_core.specs.Legal.{Job, AxisOf}
+use Rattle.board_core.specs.Legal.{BoardJob, AxisOf}
 use Rattle.board_core.specs.View.{claimed_axis, LeastWait}
 use Rattle.board_core.specs.Orders.{InSourceOrderUpToSwaps}
 use Rattle.board_core.specs.Laws.{Agrees}
@@ -36,7 +36,7 @@ claim_source b c by plan state claimable legal is table long agrees =
     ∙ ap (λ (h : History). claimed_axis h plan.number) (entries_push b.history by (claim_of plan state))
     ∙ claimed_new (past b) plan.number plan.axis plan.port state plan.cells claimable.before.before.before.before.before.unclaimed in
     let job : c.job ≡ b.job = ap (λ (q : Position). q.job) is in
-    subst (λ (j : Job). length table ≡ length j.products → slice_get (axes (static_items j.products) table) plan.number ≡ Some plan.axis) job
+    subst (λ (j : BoardJob). length table ≡ length j.products → slice_get (axes (static_items j.products) table) plan.number ≡ Some plan.axis) job
     (λ l. legal_claims legal.limits.qubits c.job table legal.limits.axes_fit l (past c) plan.number plan.axis legal.legal agrees there) long
 
 -- a look's axis, for a product that waits on none, is that of the source run; and a claimed product keeps its axis
@@ -52,5 +52,5 @@ look_stays b p look legal s axis claimed once = s.axis ∙ axis_stays legal.limi
 -- after each entry the products that are done stand in source order up to swaps
 pub order_source : (b c : Position) (by : ℕ) (e : Entry) → IsLegal c → c ≡ with_entry b by e → (table : List Given) → length table ≡ length b.job.products → Agrees table (past c) → InSourceOrderUpToSwaps b.job.products table (past c)
 order_source b c by e legal is table long agrees =
-    subst (λ (j : Job). length table ≡ length j.products → InSourceOrderUpToSwaps j.products table (past c)) (ap (λ (q : Position). q.job) is)
+    subst (λ (j : BoardJob). length table ≡ length j.products → InSourceOrderUpToSwaps j.products table (past c)) (ap (λ (q : Position). q.job) is)
     (λ l. legal_order legal.limits.qubits c.job table legal.limits.axes_fit l (past c) legal.legal agrees) long

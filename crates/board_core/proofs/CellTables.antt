@@ -9,7 +9,7 @@ use Rattle.pauli_product.specs.declared.Letter.TheVariants.{I}
 use Rattle.pauli_product.specs.Signed.{Signed}
 use Rattle.patch_layout.specs.Grid.{Grid, IsPatch, IsPort}
 use Rattle.board_core.specs.Legal.{ClaimCell}
-use Rattle.board_core.specs.Cells.{IsCellAt, IsCellBelow, Taken, LeastTaken, given_to, better_of, lesser}
+use Rattle.board_core.specs.inside.Cells.{IsCellAt, IsCellBelow, Taken, LeastTaken, given_to, better_of, lesser}
 
 -- ---- the cells by number
 module _ (g : Grid) (axis : Signed) (through : Option ℕ) (cells : List ℕ) where

@@ -20,11 +20,12 @@ use Rattle.board_core.specs.declared.Entry.TheVariants.{Deliver}
 use Rattle.board_core.specs.declared.board.Differ.{Differ}
 use Rattle.board_core.specs.declared.board.ClaimWhy.TheVariants as claim
 use Rattle.board_core.specs.History.{History, is_claim_of, claim_place, done_place, delivered, steps, taken_states}
-use Rattle.board_core.specs.Legal.{Job, Allowed, AxisOf, ClaimCell, Holds, Legal, TakesState}
+use Rattle.board_core.specs.Legal.{BoardJob, Allowed, AxisOf, ClaimCell, Holds, Legal, TakesState}
 use Rattle.board_core.specs.View.{turns_of}
 use Rattle.board_core.specs.Position.{Position, past, IsLegal}
-use Rattle.board_core.specs.Cells.{LeastTaken}
-use Rattle.board_core.specs.Books.{TakesRegion, HoldersAre, next_state, standing_of}
+use Rattle.board_core.specs.inside.Cells.{LeastTaken}
+use Rattle.board_core.specs.Books.{TakesRegion, HoldersAre, standing_of}
+use Rattle.board_core.specs.inside.Books.{next_state}
 use Rattle.board_core.specs.Causes.{is_rotation, IsProduct, DiffersAt, Unclaimed, Waiting, HasAxis, LeastHeld, IsClaimable, ClaimRefusedBecause, case_for, ready, claim_of}
 use Rattle.board_core.proofs.Places.{some_of}
 use Rattle.board_core.proofs.LegalOrder.{delivered_at}
@@ -47,7 +48,7 @@ unclaimed_here b plan s k st e kind-is region places none = record {
 
 -- ---- the axis
 -- what isn't claimed isn't done, where it takes a region
-pub unclaimed_undone : (j : Job) (h : History) (p : ℕ) (s : Static) → Legal j h → slice_get j.products p ≡ Some s → TakesRegion s.kind → claim_place h p ≡ None → done_place h p ≡ None
+pub unclaimed_undone : (j : BoardJob) (h : History) (p : ℕ) (s : Static) → Legal j h → slice_get j.products p ≡ Some s → TakesRegion s.kind → claim_place h p ≡ None → done_place h p ≡ None
 unclaimed_undone j h p s legal e t n = go (done_place h p) refl
   where
     go : (o : Option ℕ) → done_place h p ≡ o → done_place h p ≡ None

@@ -3,7 +3,7 @@ use Rattle.std.proofs.Common.{◌≡◌, ℕ, zero, suc, ◌+◌, ◌-◌, ◌/�
 use Rattle.std.proofs.lemmas.Bool.{cases_Bool, cases_lt, eqb-false}
 use Rattle.std.proofs.lemmas.List.Sums.{sum_by-cons}
 use Rattle.magic_pool.specs.declared.Fail.{Fail}
-use Rattle.magic_pool.specs.Recount.{steps_of, is_listed, is_made, makers_after, makers_of, is_taken, ready_from, ready_of}
+use Rattle.magic_pool.specs.Recount.{step_count, is_listed, is_made, makers_after, makers_of, is_taken, ready_from, ready_of}
 
 -- ---- sums
 abbrev pub sum_to : ℕ → (ℕ → ℕ) → ℕ
@@ -47,7 +47,7 @@ pub tally-append : (f : ℕ) (xs ys : List ℕ) → tally f (xs ++ ys) ≡ tally
 tally-append f [] ys = omega arith
 tally-append f (x ∷ xs) ys = let ih = tally-append f xs ys in omega arith
 
-pub steps_tally : (f : ℕ) (xs : List ℕ) → steps_of f xs ≡ tally f xs
+pub steps_tally : (f : ℕ) (xs : List ℕ) → step_count f xs ≡ tally f xs
 steps_tally f [] = refl
 steps_tally f (x ∷ xs) = sum_by-cons (λ g. cond (g == f) 1 0) x xs ∙ ap₂ ◌+◌ (same (x == f)) (steps_tally f xs)
   where
@@ -137,17 +137,17 @@ listed_few (x ∷ fails) f n =
     omega arith
 
 -- ---- the makers of states
-pub push_tally : (f g : ℕ) (before : List ℕ) → steps_of f (before ++ g ∷ []) ≡ steps_of f before + one_if (g == f)
+pub push_tally : (f g : ℕ) (before : List ℕ) → step_count f (before ++ g ∷ []) ≡ step_count f before + one_if (g == f)
 push_tally f g before =
     steps_tally f (before ++ g ∷ []) ∙ tally-append f before (g ∷ []) ∙ (let e = steps_tally f before in omega arith)
 
-pub makers_tally : (fails : List Fail) (f : ℕ) (before fs : List ℕ) → tally f (makers_after fails before fs) + made fails f (steps_of f before) ≡ made fails f (steps_of f (before ++ fs))
-makers_tally fails f before [] = zero-add (made fails f (steps_of f before)) ∙ ap (λ l. made fails f (steps_of f l)) (sym (append-nil before))
+pub makers_tally : (fails : List Fail) (f : ℕ) (before fs : List ℕ) → tally f (makers_after fails before fs) + made fails f (step_count f before) ≡ made fails f (step_count f (before ++ fs))
+makers_tally fails f before [] = zero-add (made fails f (step_count f before)) ∙ ap (λ l. made fails f (step_count f l)) (sym (append-nil before))
 makers_tally fails f before (g ∷ fs) =
     let ih = makers_tally fails f (before ++ g ∷ []) fs in
-    let more : made fails f (steps_of f ((before ++ g ∷ []) ++ fs)) ≡ made fails f (steps_of f (before ++ g ∷ fs)) = ap (λ l. made fails f (steps_of f l)) (append_assoc before (g ∷ []) fs) in
-    let first = tally_first (is_made fails g (steps_of g before + 1)) in
-    let step : made fails f (steps_of f (before ++ g ∷ [])) ≡ made fails f (steps_of f before) + one_if (g == f && is_made fails g (steps_of g before + 1)) =
+    let more : made fails f (step_count f ((before ++ g ∷ []) ++ fs)) ≡ made fails f (step_count f (before ++ g ∷ fs)) = ap (λ l. made fails f (step_count f l)) (append_assoc before (g ∷ []) fs) in
+    let first = tally_first (is_made fails g (step_count g before + 1)) in
+    let step : made fails f (step_count f (before ++ g ∷ [])) ≡ made fails f (step_count f before) + one_if (g == f && is_made fails g (step_count g before + 1)) =
     ap (made fails f) (push_tally f g before) ∙ one_more (g == f) refl in
     omega arith
   where
@@ -163,24 +163,24 @@ makers_tally fails f before (g ∷ fs) =
         none true = omega arith
         none false = omega arith
 
-    one_more : (b : Bool) → (g == f) ≡ b → made fails f (steps_of f before + one_if b) ≡ made fails f (steps_of f before) + one_if (b && is_made fails g (steps_of g before + 1))
+    one_more : (b : Bool) → (g == f) ≡ b → made fails f (step_count f before + one_if b) ≡ made fails f (step_count f before) + one_if (b && is_made fails g (step_count g before + 1))
     one_more true e =
-        ap (made fails f) (let n : steps_of f before + 1 ≡ suc (steps_of f before) = omega arith in n)
-        ∙ ap (λ k. made fails f (steps_of f before) + one_if (is_made fails f k)) (let n : suc (steps_of f before) ≡ steps_of f before + 1 = omega arith in n)
-        ∙ ap (λ y. made fails f (steps_of f before) + one_if (is_made fails y (steps_of y before + 1))) (sym (eqb-true g f e))
-    one_more false e = ap (made fails f) (let n : steps_of f before + 0 ≡ steps_of f before = omega arith in n) ∙ (let z : made fails f (steps_of f before) ≡ made fails f (steps_of f before) + 0 = omega arith in z)
+        ap (made fails f) (let n : step_count f before + 1 ≡ suc (step_count f before) = omega arith in n)
+        ∙ ap (λ k. made fails f (step_count f before) + one_if (is_made fails f k)) (let n : suc (step_count f before) ≡ step_count f before + 1 = omega arith in n)
+        ∙ ap (λ y. made fails f (step_count f before) + one_if (is_made fails y (step_count y before + 1))) (sym (eqb-true g f e))
+    one_more false e = ap (made fails f) (let n : step_count f before + 0 ≡ step_count f before = omega arith in n) ∙ (let z : made fails f (step_count f before) ≡ made fails f (step_count f before) + 0 = omega arith in z)
 
-makers_after-push : (fails : List Fail) (before fs : List ℕ) (g : ℕ) → makers_after fails before (fs ++ g ∷ []) ≡ makers_after fails before fs ++ (if is_made fails g (steps_of g (before ++ fs) + 1) then g ∷ [] else [])
-makers_after-push fails before [] g = ap (λ l. if is_made fails g (steps_of g l + 1) then g ∷ [] else []) (sym (append-nil before))
+makers_after-push : (fails : List Fail) (before fs : List ℕ) (g : ℕ) → makers_after fails before (fs ++ g ∷ []) ≡ makers_after fails before fs ++ (if is_made fails g (step_count g (before ++ fs) + 1) then g ∷ [] else [])
+makers_after-push fails before [] g = ap (λ l. if is_made fails g (step_count g l + 1) then g ∷ [] else []) (sym (append-nil before))
 makers_after-push fails before (x ∷ fs) g =
-    ap (λ l. if is_made fails x (steps_of x before + 1) then (x ∷ l) else l) (makers_after-push fails (before ++ x ∷ []) fs g ∙ ap (λ l. makers_after fails (before ++ x ∷ []) fs ++ (if is_made fails g (steps_of g l + 1) then g ∷ [] else [])) (append_assoc before (x ∷ []) fs))
-    ∙ go (is_made fails x (steps_of x before + 1)) (makers_after fails (before ++ x ∷ []) fs) (if is_made fails g (steps_of g (before ++ x ∷ fs) + 1) then g ∷ [] else [])
+    ap (λ l. if is_made fails x (step_count x before + 1) then (x ∷ l) else l) (makers_after-push fails (before ++ x ∷ []) fs g ∙ ap (λ l. makers_after fails (before ++ x ∷ []) fs ++ (if is_made fails g (step_count g l + 1) then g ∷ [] else [])) (append_assoc before (x ∷ []) fs))
+    ∙ go (is_made fails x (step_count x before + 1)) (makers_after fails (before ++ x ∷ []) fs) (if is_made fails g (step_count g (before ++ x ∷ fs) + 1) then g ∷ [] else [])
   where
     go : (b : Bool) (l m : List ℕ) → (if b then (x ∷ (l ++ m)) else (l ++ m)) ≡ (if b then (x ∷ l) else l) ++ m
     go true l m = refl
     go false l m = refl
 
-pub makers-push : (fails : List Fail) (st : List ℕ) (g : ℕ) → makers_of fails (st ++ g ∷ []) ≡ makers_of fails st ++ (if is_made fails g (steps_of g st + 1) then g ∷ [] else [])
+pub makers-push : (fails : List Fail) (st : List ℕ) (g : ℕ) → makers_of fails (st ++ g ∷ []) ≡ makers_of fails st ++ (if is_made fails g (step_count g st + 1) then g ∷ [] else [])
 makers-push fails st g = makers_after-push fails [] st g
 
 -- ---- ready states
@@ -204,12 +204,12 @@ one_ready n g f taken true = go (g == f) (is_taken taken n)
     go false t = omega arith
 one_ready n g f taken false = omega arith
 
-pub ready_step : (fails : List Fail) (st taken : List ℕ) (g f : ℕ) → length (ready_of fails (st ++ g ∷ []) taken f) ≤ length (ready_of fails st taken f) + one_if (g == f && is_made fails g (steps_of g st + 1))
+pub ready_step : (fails : List Fail) (st taken : List ℕ) (g f : ℕ) → length (ready_of fails (st ++ g ∷ []) taken f) ≤ length (ready_of fails st taken f) + one_if (g == f && is_made fails g (step_count g st + 1))
 ready_step fails st taken g f =
     let e = ap (λ l. length (ready_from 0 l taken f)) (makers-push fails st g) in
-    let d = ap length (ready-append 0 (makers_of fails st) (if is_made fails g (steps_of g st + 1) then g ∷ [] else []) taken f) in
-    let c = length-append (ready_of fails st taken f) (ready_from (0 + length (makers_of fails st)) (if is_made fails g (steps_of g st + 1) then g ∷ [] else []) taken f) in
-    let o = one_ready (0 + length (makers_of fails st)) g f taken (is_made fails g (steps_of g st + 1)) in
+    let d = ap length (ready-append 0 (makers_of fails st) (if is_made fails g (step_count g st + 1) then g ∷ [] else []) taken f) in
+    let c = length-append (ready_of fails st taken f) (ready_from (0 + length (makers_of fails st)) (if is_made fails g (step_count g st + 1) then g ∷ [] else []) taken f) in
+    let o = one_ready (0 + length (makers_of fails st)) g f taken (is_made fails g (step_count g st + 1)) in
     omega arith
 
 taken_more : (taken : List ℕ) (s n : ℕ) → is_taken (taken ++ s ∷ []) n ≡ (is_taken taken n || s == n)

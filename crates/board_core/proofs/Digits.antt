@@ -5,7 +5,7 @@ use Rattle.pauli_product.specs.Bits.{number_of}
 use Rattle.std.specs.Bool.{beq}
 use Rattle.std.proofs.lemmas.Option.{slice_get-get_or}
 use Rattle.board_core.specs.declared.bits.Written.{Written}
-use Rattle.board_core.specs.Bits.{value_of, value_in}
+use Rattle.board_core.specs.inside.Bits.{value_of, value_in}
 use Rattle.board_core.proofs.Counting.{one_if}
 
 same_tests : (a b c d : ℕ) → (a ≡ b → c ≡ d) → (c ≡ d → a ≡ b) → (a == b) ≡ (c == d)

@@ -6,7 +6,7 @@ use Rattle.std.proofs.lemmas.List.{take-append-le}
 use Rattle.std.proofs.Math.Seq.{take-append_seam}
 use Rattle.board_core.specs.declared.Entry.{Entry}
 use Rattle.board_core.specs.History.{History}
-use Rattle.board_core.specs.Legal.{Job, Allowed, Legal}
+use Rattle.board_core.specs.Legal.{BoardJob, Allowed, Legal}
 use Rattle.board_core.proofs.Places.{place_cons, none_of}
 use Rattle.board_core.proofs.LegalOrder.{at_end}
 
@@ -44,15 +44,15 @@ last_or_before [] y (suc k) x e = absurd (none-some x e)
 last_or_before (z ∷ xs) y zero x e = inl (omega arith, e)
 last_or_before (z ∷ xs) y (suc k) x e = elim (last_or_before xs y k x e) [ inl r ↦ inl (omega arith, r.1) | inr r ↦ inr (ap suc r.0, r.1) ]
 
-pub legal_empty : (j : Job) → Legal j []
+pub legal_empty : (j : BoardJob) → Legal j []
 legal_empty j n e f = absurd (none-some e f)
 
-pub legal_take : (j : Job) (h : History) (n : ℕ) → Legal j h → Legal j (take n h)
+pub legal_take : (j : BoardJob) (h : History) (n : ℕ) → Legal j h → Legal j (take n h)
 legal_take j h n legal m e f =
     let r = within_take h n m e f in
     subst (λ g. Allowed j g e) (sym (take_take h m n (omega arith))) (legal m e r.1)
 
-pub legal_next : (j : Job) (h : History) (e : Entry) → Legal j h → Allowed j h e → Legal j (h ++ e ∷ [])
+pub legal_next : (j : BoardJob) (h : History) (e : Entry) → Legal j h → Allowed j h e → Legal j (h ++ e ∷ [])
 legal_next j h e legal a m x f =
     elim (last_or_before h e m x f) [
       | inl r ↦ subst (λ g. Allowed j g x) (sym (take-append-le m h (e ∷ []) (omega arith))) (legal m x r.1)
@@ -61,7 +61,7 @@ legal_next j h e legal a m x f =
           (subst (λ g. Allowed j g x) (sym (take-append_seam h (e ∷ []))) (subst (λ y. Allowed j h y) (sym r.1) a))
     ]
 
-pub legal_back : (j : Job) (h : History) (e : Entry) → Legal j (h ++ e ∷ []) → Legal j h × Allowed j h e
+pub legal_back : (j : BoardJob) (h : History) (e : Entry) → Legal j (h ++ e ∷ []) → Legal j h × Allowed j h e
 legal_back j h e legal = (
   subst (Legal j) (take-append_seam h (e ∷ [])) (legal_take j (h ++ e ∷ []) (length h) legal),
   subst (λ g. Allowed j g e) (take-append_seam h (e ∷ [])) (legal (length h) e (at_end h e [])),

@@ -8,7 +8,7 @@ use Rattle.board_core.specs.declared.Entry.{Entry}
 use Rattle.board_core.specs.declared.Entry.TheVariants.{Claim, Deliver, Release, Settle}
 use Rattle.board_core.specs.declared.Entry.TheVariants as entry
 use Rattle.board_core.specs.History.{History, delivered, is_release_of, is_claim_of, claim_place, release_place}
-use Rattle.board_core.specs.Legal.{Job, Allowed, Legal, ClaimCell, Holds}
+use Rattle.board_core.specs.Legal.{BoardJob, Allowed, Legal, ClaimCell, Holds}
 use Rattle.board_core.proofs.Places.{some_of, none_of}
 use Rattle.board_core.proofs.LegalOrder.{at_end, delivered_at}
 use Rattle.board_core.proofs.Going.{last_or_before, get_append, some_take, legal_take}
@@ -37,7 +37,7 @@ held_before g h e q c other x =
 
 -- ---- releases
 -- what is released was claimed
-pub release_claimed : (j : Job) (h : History) (q : ℕ) → Legal j h → IsSome (release_place h q) → IsSome (claim_place h q)
+pub release_claimed : (j : BoardJob) (h : History) (q : ℕ) → Legal j h → IsSome (release_place h q) → IsSome (claim_place h q)
 release_claimed j h q legal r =
     let k = some_of (release_place h q) r in
     let at = found_at (is_release_of q) h k.0 k.1 in
@@ -47,7 +47,7 @@ release_claimed j h q legal r =
     let b = legal_take j h k.0 legal d.0 (Deliver q g.0) d.1 in
     some_take (is_claim_of q) h k.0 (some_take (is_claim_of q) (take k.0 h) d.0 b.0)
 
-unreleased : (j : Job) (h : History) (q : ℕ) → Legal j h → claim_place h q ≡ None → release_place h q ≡ None
+unreleased : (j : BoardJob) (h : History) (q : ℕ) → Legal j h → claim_place h q ≡ None → release_place h q ≡ None
 unreleased j h q legal n = none_of (release_place h q) (false_from_ne_true (is_some (release_place h q)) (λ r. true≢false (sym (release_claimed j h q legal r) ∙ ap is_some n)))
 
 -- ---- one entry more
@@ -75,7 +75,7 @@ claims_something (Settle p flip) = false
 no_claim : (q : ℕ) (e : Entry) → claims_something e ≡ false → (axis : Signed) (through state : Option ℕ) (cells : List ℕ) → Claim q axis through state cells ≡ e → ⊥
 no_claim q e f axis through state cells s = true≢false (ap claims_something s ∙ f)
 
-pub holds_after : (j : Job) (h : History) (e : Entry) (q c : ℕ) → Legal j h → Allowed j h e → Holds j.grid (h ++ e ∷ []) q c ↔ HoldsAfter j.grid h e q c
+pub holds_after : (j : BoardJob) (h : History) (e : Entry) (q c : ℕ) → Legal j h → Allowed j h e → Holds j.grid (h ++ e ∷ []) q c ↔ HoldsAfter j.grid h e q c
 holds_after j h (Claim p axis through state cells) q c legal a = (to, from)
   where
     to : Holds j.grid (h ++ Claim p axis through state cells ∷ []) q c → Holds j.grid h q c ⊎ ((q ≡ p) × ClaimCell j.grid axis through cells c)

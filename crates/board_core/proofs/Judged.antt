@@ -12,9 +12,10 @@ use Rattle.board_core.specs.declared.board.DeliverWhy.TheVariants as deliver
 use Rattle.board_core.specs.History.{claim_place, done_place}
 use Rattle.board_core.specs.View.{LeastWait}
 use Rattle.board_core.specs.Position.{Position, past}
-use Rattle.board_core.specs.Books.{TakesRegion, CanDeliver, standing_of}
+use Rattle.board_core.specs.Books.{TakesRegion, standing_of}
+use Rattle.board_core.specs.inside.Books.{CanDeliver}
 use Rattle.board_core.specs.Causes.{IsProduct, IsBegun, IsDeliverable, DeliverRefusedBecause}
-use Rattle.board_core.specs.Judging.{if_of_kind, if_undone, if_claimed, why_not_delivered}
+use Rattle.board_core.specs.inside.Judging.{if_of_kind, if_undone, if_claimed, why_not_delivered}
 use Rattle.board_core.proofs.Claiming.{one_product}
 
 wrong : (k : Kind) (g : Given) → MatchOption (if_of_kind k g) (IsOutcomeOf k g) (λ why. (why ≡ deliver.WrongKind) × (IsOutcomeOf k g → ⊥))

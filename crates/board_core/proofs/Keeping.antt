@@ -16,12 +16,13 @@ use Rattle.board_core.specs.declared.board.Standing.{Standing}
 use Rattle.board_core.specs.declared.Entry.{Entry}
 use Rattle.board_core.specs.declared.Entry.TheVariants.{Claim, Deliver, Release, Settle}
 use Rattle.board_core.specs.History.{History, is_claim_of, is_done_by, is_release_of, claim_place, done_place, release_place}
-use Rattle.board_core.specs.Legal.{Job, Allowed, Legal, ClaimCell, Holds}
+use Rattle.board_core.specs.Legal.{BoardJob, Allowed, Legal, ClaimCell, Holds}
 use Rattle.board_core.specs.View.{claimed_axis, rotation_turns, turns_by, turns_of}
-use Rattle.board_core.specs.Cells.{Taken, without}
-use Rattle.board_core.specs.BitsNow.{WritesBit, LastWritten}
-use Rattle.board_core.specs.Bits.{BitIs, BitsAre, after_write}
-use Rattle.board_core.specs.Books.{standing_of, StandingsAre, HoldersAre}
+use Rattle.board_core.specs.inside.Cells.{Taken, without}
+use Rattle.board_core.specs.inside.BitsNow.{WritesBit, LastWritten}
+use Rattle.board_core.specs.inside.Bits.{BitIs, BitsAre, after_write}
+use Rattle.board_core.specs.Books.{standing_of, HoldersAre}
+use Rattle.board_core.specs.inside.Books.{StandingsAre}
 use Rattle.board_core.proofs.Places.{turns-push, delivered_done, done_stands}
 use Rattle.board_core.proofs.Standings.{place_stays, place_comes}
 use Rattle.board_core.proofs.CellTables.{get_set_same, get_set_other}
@@ -50,7 +51,7 @@ standing_released h p n =
     ap₂ (λ x (y : Option ℕ × Option ℕ). record { claim = x; deliver = y.0; release = y.1 }) (place_stays (is_claim_of p) h (Release p) refl)
     (ap₂ (λ x y. (x, y)) (place_stays (is_done_by p) h (Release p) refl) (place_comes (is_release_of p) h (Release p) (eq-eqb p p refl) n))
 
-pub standings_set : (j : Job) (h : History) (e : Entry) (standings : List Standing) (p : ℕ) (s : Standing) → standing_of (h ++ e ∷ []) p ≡ s → ((q : ℕ) → p ≢ q → standing_of (h ++ e ∷ []) q ≡ standing_of h q) → StandingsAre j h standings → StandingsAre j (h ++ e ∷ []) (set standings p s)
+pub standings_set : (j : BoardJob) (h : History) (e : Entry) (standings : List Standing) (p : ℕ) (s : Standing) → standing_of (h ++ e ∷ []) p ≡ s → ((q : ℕ) → p ≢ q → standing_of (h ++ e ∷ []) q ≡ standing_of h q) → StandingsAre j h standings → StandingsAre j (h ++ e ∷ []) (set standings p s)
 standings_set j h e standings p s here others x = (
   length-set standings p s ∙ x.0,
   λ q l. elim (cases_eq p q) [
@@ -61,11 +62,11 @@ standings_set j h e standings p s here others x = (
   ],
 )
 
-pub standings_same : (j : Job) (h : History) (e : Entry) (standings : List Standing) → ((q : ℕ) → standing_of (h ++ e ∷ []) q ≡ standing_of h q) → StandingsAre j h standings → StandingsAre j (h ++ e ∷ []) standings
+pub standings_same : (j : BoardJob) (h : History) (e : Entry) (standings : List Standing) → ((q : ℕ) → standing_of (h ++ e ∷ []) q ≡ standing_of h q) → StandingsAre j h standings → StandingsAre j (h ++ e ∷ []) standings
 standings_same j h e standings others x = (x.0, λ q l. x.1 q l ∙ ap Some (sym (others q)))
 
 -- ---- holders
-pub holders_claim : (j : Job) (h : History) (p : ℕ) (axis : Signed) (through state : Option ℕ) (cells : List ℕ) (old new : List (Option ℕ)) → Legal j h → Allowed j h (Claim p axis through state cells) → Taken (ClaimCell j.grid axis through cells) p old new → HoldersAre j h old → HoldersAre j (h ++ Claim p axis through state cells ∷ []) new
+pub holders_claim : (j : BoardJob) (h : History) (p : ℕ) (axis : Signed) (through state : Option ℕ) (cells : List ℕ) (old new : List (Option ℕ)) → Legal j h → Allowed j h (Claim p axis through state cells) → Taken (ClaimCell j.grid axis through cells) p old new → HoldersAre j h old → HoldersAre j (h ++ Claim p axis through state cells ∷ []) new
 holders_claim j h p axis through state cells old new legal a t x =
     (t.0 ∙ x.0, λ c q l. one c q l (t.1 c (let s = x.0 in omega arith)))
   where
@@ -91,7 +92,7 @@ freed (Some (Some r)) p q = (to (r == p) refl, from)
     from : (Some (Some r) ≡ Some (Some q)) × (q ≢ p) → Some (if r == p then None else Some r) ≡ Some (Some q)
     from x = ap (λ b. Some (if b then None else Some r)) (ne_eqb r p (λ z. x.1 (sym (same_Some r q (same_Some (Some r) (Some q) x.0)) ∙ z))) ∙ x.0
 
-pub holders_release : (j : Job) (h : History) (p : ℕ) (old new : List (Option ℕ)) → Legal j h → Allowed j h (Release p) → length new ≡ length old → ((c : ℕ) → slice_get new c ≡ option_map (without p) (slice_get old c)) → HoldersAre j h old → HoldersAre j (h ++ Release p ∷ []) new
+pub holders_release : (j : BoardJob) (h : History) (p : ℕ) (old new : List (Option ℕ)) → Legal j h → Allowed j h (Release p) → length new ≡ length old → ((c : ℕ) → slice_get new c ≡ option_map (without p) (slice_get old c)) → HoldersAre j h old → HoldersAre j (h ++ Release p ∷ []) new
 holders_release j h p old new legal a size t x = (
   size ∙ x.0,
   λ c q l. (
@@ -100,14 +101,14 @@ holders_release j h p old new legal a size t x = (
   ),
 )
 
-pub holders_same : (j : Job) (h : History) (e : Entry) (holders : List (Option ℕ)) → ((q c : ℕ) → Holds j.grid (h ++ e ∷ []) q c ↔ Holds j.grid h q c) → HoldersAre j h holders → HoldersAre j (h ++ e ∷ []) holders
+pub holders_same : (j : BoardJob) (h : History) (e : Entry) (holders : List (Option ℕ)) → ((q c : ℕ) → Holds j.grid (h ++ e ∷ []) q c ↔ Holds j.grid h q c) → HoldersAre j h holders → HoldersAre j (h ++ e ∷ []) holders
 holders_same j h e holders others x = (x.0, λ c q l. (λ s. (others q c).1 ((x.1 c q l).0 s), λ s. (x.1 c q l).1 ((others q c).0 s)))
 
 -- ---- bits
-pub bits_same : (j : Job) (h : History) (e : Entry) (bits : List Written) → ((b q : ℕ) → WritesBit j b q → is_done_by q e ≡ false) → BitsAre j h bits → BitsAre j (h ++ e ∷ []) bits
+pub bits_same : (j : BoardJob) (h : History) (e : Entry) (bits : List Written) → ((b q : ℕ) → WritesBit j b q → is_done_by q e ≡ false) → BitsAre j h bits → BitsAre j (h ++ e ∷ []) bits
 bits_same j h e bits others x b w s = written_same j h e b w.by w.value (others b) (x b w s)
 
-one_write : (j : Job) (h : History) (b p : ℕ) (axis : Signed) (g : Given) (by : Option ℕ) (v : Bool) → WritesBit j b p → claimed_axis h p ≡ Some axis → done_place h p ≡ None → LastWritten j h b by v → BitIs j (h ++ Deliver p g ∷ []) b (after_write (record { by = by; value = v }) p (effective axis (raw_of g)))
+one_write : (j : BoardJob) (h : History) (b p : ℕ) (axis : Signed) (g : Given) (by : Option ℕ) (v : Bool) → WritesBit j b p → claimed_axis h p ≡ Some axis → done_place h p ≡ None → LastWritten j h b by v → BitIs j (h ++ Deliver p g ∷ []) b (after_write (record { by = by; value = v }) p (effective axis (raw_of g)))
 one_write j h b p axis g None v writes claimed once x = written_new j h b p axis g writes claimed once None v (λ q s. absurd (none-some q s)) x
 one_write j h b p axis g (Some q) v writes claimed once x = go (nat_lt p q) refl
   where
@@ -127,7 +128,7 @@ bit_in kind.Rotation = 0
 bit_in (kind.Measure d) = d
 bit_in (kind.Settle first size value) = 0
 
-same_bit : (j : Job) (b c p q : ℕ) → WritesBit j b p → WritesBit j c q → p ≡ q → b ≡ c
+same_bit : (j : BoardJob) (b c p q : ℕ) → WritesBit j b p → WritesBit j c q → p ≡ q → b ≡ c
 same_bit j b c p q x y e =
     let s = same_Some x.0 y.0 (sym x.1 ∙ ap (slice_get j.products) e ∙ y.1) in
     bit_of_kind (kind.Measure b) (kind.Measure c) (sym x.2 ∙ ap (λ (t : Static). t.kind) s ∙ y.2)
@@ -135,7 +136,7 @@ same_bit j b c p q x y e =
     bit_of_kind : (k l : Kind) → k ≡ l → bit_in k ≡ bit_in l
     bit_of_kind k l s = ap bit_in s
 
-pub bits_write : (j : Job) (h : History) (b p : ℕ) (axis : Signed) (g : Given) (bits : List Written) (w : Written) → WritesBit j b p → claimed_axis h p ≡ Some axis → done_place h p ≡ None → slice_get bits b ≡ Some w → BitsAre j h bits → BitsAre j (h ++ Deliver p g ∷ []) (set bits b (after_write w p (effective axis (raw_of g))))
+pub bits_write : (j : BoardJob) (h : History) (b p : ℕ) (axis : Signed) (g : Given) (bits : List Written) (w : Written) → WritesBit j b p → claimed_axis h p ≡ Some axis → done_place h p ≡ None → slice_get bits b ≡ Some w → BitsAre j h bits → BitsAre j (h ++ Deliver p g ∷ []) (set bits b (after_write w p (effective axis (raw_of g))))
 bits_write j h b p axis g bits w writes claimed once at x c u s =
     elim (cases_eq b c) [
       | inl e ↦

@@ -7,12 +7,12 @@ use Rattle.patch_layout.specs.Grid.{Grid}
 use Rattle.magic_pool.specs.declared.Fail.{Fail}
 use Rattle.board_core.specs.declared.Entry.{Entry}
 use Rattle.board_core.specs.History.{History, entries}
-use Rattle.board_core.specs.Legal.{Job}
+use Rattle.board_core.specs.Legal.{BoardJob}
 use Rattle.board_core.specs.Position.{Position, IsLegal, note, with_entry, job_with}
-use Rattle.board_core.specs.Kept.{Tables, Kept}
+use Rattle.board_core.specs.inside.Kept.{Tables, Kept}
 use Rattle.board_core.proofs.Short.{legal_short}
 
-pub kept_legal : (j : Job) (log : List Noted) (t : Tables) → Kept j (entries log) t → IsLegal (record { job = j; history = log })
+pub kept_legal : (j : BoardJob) (log : List Noted) (t : Tables) → Kept j (entries log) t → IsLegal (record { job = j; history = log })
 kept_legal j log t k = record {
   limits = k.limits;
   factories = k.sound.stores;

@@ -21,14 +21,14 @@ use Rattle.magic_pool.specs.Pooled.{Pooled, Recounts, store_of}
 use Rattle.std.specs.Option.{option_to_list}
 use Rattle.std.proofs.lemmas.Grind.{flat_map-append}
 use Rattle.board_core.specs.History.{History, is_done_by, done_place, steps, steps_in, taken_states, states_in}
-use Rattle.board_core.specs.Legal.{Job, Allowed, ClaimCell}
+use Rattle.board_core.specs.Legal.{BoardJob, Allowed, ClaimCell}
 use Rattle.board_core.specs.View.{claimed_axis, rotation_turns, turns_by, turns_of}
-use Rattle.board_core.specs.Cells.{Taken, without}
-use Rattle.board_core.specs.BitsNow.{WritesBit}
-use Rattle.board_core.specs.Bits.{BitsAre}
+use Rattle.board_core.specs.inside.Cells.{Taken, without}
+use Rattle.board_core.specs.inside.BitsNow.{WritesBit}
+use Rattle.board_core.specs.inside.Bits.{BitsAre}
 use Rattle.board_core.specs.Books.{standing_of}
-use Rattle.board_core.specs.Uses.{DoneAre}
-use Rattle.board_core.specs.Kept.{Tables, Kept}
+use Rattle.board_core.specs.inside.Uses.{DoneAre}
+use Rattle.board_core.specs.inside.Kept.{Tables, Kept}
 use Rattle.board_core.proofs.Going.{legal_next}
 use Rattle.board_core.proofs.Standings.{place_stays, place_comes}
 use Rattle.board_core.proofs.CellTables.{get_set_same, get_set_other}
@@ -36,10 +36,10 @@ use Rattle.board_core.proofs.Holding.{holds_after}
 use Rattle.board_core.proofs.Keeping.{standing_same, standing_claimed, standing_done, standing_released, standings_set, standings_same, holders_claim, holders_release, holders_same, bits_same, turns_quiet, turns_deliver, turns_settle}
 
 -- ---- done products
-done_same : (j : Job) (h : History) (e : Entry) (done : List Bool) → ((q : ℕ) → is_done_by q e ≡ false) → DoneAre j h done → DoneAre j (h ++ e ∷ []) done
+done_same : (j : BoardJob) (h : History) (e : Entry) (done : List Bool) → ((q : ℕ) → is_done_by q e ≡ false) → DoneAre j h done → DoneAre j (h ++ e ∷ []) done
 done_same j h e done others x = (x.0, λ q l. x.1 q l ∙ ap (λ o. Some (is_some o)) (sym (place_stays (is_done_by q) h e (others q))))
 
-done_mark : (j : Job) (h : History) (e : Entry) (p : ℕ) (done : List Bool) → ((q : ℕ) → is_done_by q e ≡ (p == q)) → done_place h p ≡ None → DoneAre j h done → DoneAre j (h ++ e ∷ []) (set done p true)
+done_mark : (j : BoardJob) (h : History) (e : Entry) (p : ℕ) (done : List Bool) → ((q : ℕ) → is_done_by q e ≡ (p == q)) → done_place h p ≡ None → DoneAre j h done → DoneAre j (h ++ e ∷ []) (set done p true)
 done_mark j h e p done here once x = (
   length-set done p true ∙ x.0,
   λ q l. elim (cases_eq p q) [
@@ -78,7 +78,7 @@ claim_states p axis through (Some s) cells = refl
 abbrev pub after_release : Tables → ℕ → ℕ → Standing → List (Option ℕ) → Tables
 after_release t p place st holders = record t { holders = holders; standings = set t.standings p (record st { release = Some place }) }
 
-pub release_keeps : (j : Job) (h : History) (p : ℕ) (t : Tables) (st : Standing) (holders : List (Option ℕ)) → Kept j h t → Allowed j h (Release p) → slice_get t.standings p ≡ Some st → p < length j.products → length holders ≡ length t.holders → ((c : ℕ) → slice_get holders c ≡ option_map (without p) (slice_get t.holders c)) → Kept j (h ++ Release p ∷ []) (after_release t p (length h) st holders)
+pub release_keeps : (j : BoardJob) (h : History) (p : ℕ) (t : Tables) (st : Standing) (holders : List (Option ℕ)) → Kept j h t → Allowed j h (Release p) → slice_get t.standings p ≡ Some st → p < length j.products → length holders ≡ length t.holders → ((c : ℕ) → slice_get holders c ≡ option_map (without p) (slice_get t.holders c)) → Kept j (h ++ Release p ∷ []) (after_release t p (length h) st holders)
 release_keeps j h p t st holders k a at l size freed =
     let is = same_Some st (standing_of h p) (sym at ∙ k.standings.1 p l) in
     let e = Release p in
@@ -108,7 +108,7 @@ release_keeps j h p t st holders k a at l size freed =
 abbrev pub after_claim : Tables → ℕ → ℕ → Standing → List (Option ℕ) → Pooled → Tables
 after_claim t p place st holders pool = record t { holders = holders; pool = pool; standings = set t.standings p (record st { claim = Some place }) }
 
-pub claim_keeps : (j : Job) (h : History) (p : ℕ) (axis : Signed) (through state : Option ℕ) (cells : List ℕ) (t : Tables) (st : Standing) (holders : List (Option ℕ)) (pool : Pooled) → Kept j h t → Allowed j h (Claim p axis through state cells) → slice_get t.standings p ≡ Some st → p < length j.products → Taken (ClaimCell j.grid axis through cells) p t.holders holders → pool.fails ≡ t.pool.fails → pool.makers ≡ t.pool.makers → Recounts pool (steps h) (taken_states h ++ option_to_list state) → Kept j (h ++ Claim p axis through state cells ∷ []) (after_claim t p (length h) st holders pool)
+pub claim_keeps : (j : BoardJob) (h : History) (p : ℕ) (axis : Signed) (through state : Option ℕ) (cells : List ℕ) (t : Tables) (st : Standing) (holders : List (Option ℕ)) (pool : Pooled) → Kept j h t → Allowed j h (Claim p axis through state cells) → slice_get t.standings p ≡ Some st → p < length j.products → Taken (ClaimCell j.grid axis through cells) p t.holders holders → pool.fails ≡ t.pool.fails → pool.makers ≡ t.pool.makers → Recounts pool (steps h) (taken_states h ++ option_to_list state) → Kept j (h ++ Claim p axis through state cells ∷ []) (after_claim t p (length h) st holders pool)
 claim_keeps j h p axis through state cells t st holders pool k a at l taken same_fails same_makers recounts =
     let is = same_Some st (standing_of h p) (sym at ∙ k.standings.1 p l) in
     record {
@@ -134,7 +134,7 @@ claim_keeps j h p axis through state cells t st holders pool k a at l taken same
     }
 
 -- ---- a factory's step
-pub step_keeps : (j : Job) (h : History) (f : ℕ) (t : Tables) (pool : Pooled) → Kept j h t → Allowed j h (entry.Step f) → pool.fails ≡ t.pool.fails → pool.makers ≡ t.pool.makers → Recounts pool (steps h ++ f ∷ []) (taken_states h) → Kept j (h ++ entry.Step f ∷ []) (record t { pool = pool })
+pub step_keeps : (j : BoardJob) (h : History) (f : ℕ) (t : Tables) (pool : Pooled) → Kept j h t → Allowed j h (entry.Step f) → pool.fails ≡ t.pool.fails → pool.makers ≡ t.pool.makers → Recounts pool (steps h ++ f ∷ []) (taken_states h) → Kept j (h ++ entry.Step f ∷ []) (record t { pool = pool })
 step_keeps j h f t pool k a same_fails same_makers recounts = record {
   limits = k.limits;
   sound = k.sound;
@@ -159,14 +159,14 @@ abbrev pub after_done : Tables → ℕ → ℕ → Standing → Images → List 
 after_done t p place st frame bits scratch =
     record t { frame = frame; done = set t.done p true; standings = set t.standings p (record st { deliver = Some place }); bits = bits; scratch = scratch }
 
-other_kind : (j : Job) (b p q : ℕ) (s : Static) → slice_get j.products p ≡ Some s → ((c : ℕ) → s.kind ≡ kind.Measure c → ⊥) → WritesBit j b q → (p == q) ≡ false
+other_kind : (j : BoardJob) (b p q : ℕ) (s : Static) → slice_get j.products p ≡ Some s → ((c : ℕ) → s.kind ≡ kind.Measure c → ⊥) → WritesBit j b q → (p == q) ≡ false
 other_kind j b p q s e no_bit w = ne_eqb p q (λ same. no_bit b (ap (λ (x : Static). x.kind) (same_Some s w.0 (sym e ∙ ap (slice_get j.products) same ∙ w.1)) ∙ w.2))
 
 -- a product that is no measurement leaves the bits
-pub bits_deliver : (j : Job) (h : History) (p : ℕ) (g : Given) (s : Static) (bits : List Written) → slice_get j.products p ≡ Some s → ((c : ℕ) → s.kind ≡ kind.Measure c → ⊥) → BitsAre j h bits → BitsAre j (h ++ Deliver p g ∷ []) bits
+pub bits_deliver : (j : BoardJob) (h : History) (p : ℕ) (g : Given) (s : Static) (bits : List Written) → slice_get j.products p ≡ Some s → ((c : ℕ) → s.kind ≡ kind.Measure c → ⊥) → BitsAre j h bits → BitsAre j (h ++ Deliver p g ∷ []) bits
 bits_deliver j h p g s bits e no_bit x = bits_same j h (Deliver p g) bits (λ b q w. other_kind j b p q s e no_bit w) x
 
-pub deliver_keeps : (j : Job) (h : History) (p : ℕ) (g : Given) (axis : Signed) (t : Tables) (st : Standing) (frame : Images) (bits : List Written) (scratch : Signed) → (k : Kept j h t) → Allowed j h (Deliver p g) → slice_get t.standings p ≡ Some st → claimed_axis h p ≡ Some axis → After k.limits.qubits (turns_of j.products h ++ rotation_turns axis g) frame → BitsAre j (h ++ Deliver p g ∷ []) bits → length bits ≡ length t.bits → OfLength k.limits.qubits scratch → Kept j (h ++ Deliver p g ∷ []) (after_done t p (length h) st frame bits scratch)
+pub deliver_keeps : (j : BoardJob) (h : History) (p : ℕ) (g : Given) (axis : Signed) (t : Tables) (st : Standing) (frame : Images) (bits : List Written) (scratch : Signed) → (k : Kept j h t) → Allowed j h (Deliver p g) → slice_get t.standings p ≡ Some st → claimed_axis h p ≡ Some axis → After k.limits.qubits (turns_of j.products h ++ rotation_turns axis g) frame → BitsAre j (h ++ Deliver p g ∷ []) bits → length bits ≡ length t.bits → OfLength k.limits.qubits scratch → Kept j (h ++ Deliver p g ∷ []) (after_done t p (length h) st frame bits scratch)
 deliver_keeps j h p g axis t st frame bits scratch k a at claimed corrected written size fits =
     let l = slice_get_within j.products p a.2.0 a.2.1 in
     let is = same_Some st (standing_of h p) (sym at ∙ k.standings.1 p l) in
@@ -192,7 +192,7 @@ deliver_keeps j h p g axis t st frame bits scratch k a at claimed corrected writ
       scratch = fits;
     }
 
-pub settle_keeps : (j : Job) (h : History) (p : ℕ) (flip : Bool) (s : Static) (t : Tables) (st : Standing) (frame : Images) (scratch : Signed) → (k : Kept j h t) → Allowed j h (Settle p flip) → slice_get t.standings p ≡ Some st → slice_get j.products p ≡ Some s → After k.limits.qubits (turns_of j.products h ++ turn_if flip (carry (turns_of j.products h) s.axis) half) frame → OfLength k.limits.qubits scratch → Kept j (h ++ Settle p flip ∷ []) (after_done t p (length h) st frame t.bits scratch)
+pub settle_keeps : (j : BoardJob) (h : History) (p : ℕ) (flip : Bool) (s : Static) (t : Tables) (st : Standing) (frame : Images) (scratch : Signed) → (k : Kept j h t) → Allowed j h (Settle p flip) → slice_get t.standings p ≡ Some st → slice_get j.products p ≡ Some s → After k.limits.qubits (turns_of j.products h ++ turn_if flip (carry (turns_of j.products h) s.axis) half) frame → OfLength k.limits.qubits scratch → Kept j (h ++ Settle p flip ∷ []) (after_done t p (length h) st frame t.bits scratch)
 settle_keeps j h p flip s t st frame scratch k a at e corrected fits =
     let l = slice_get_within j.products p s e in
     let is = same_Some st (standing_of h p) (sym at ∙ k.standings.1 p l) in

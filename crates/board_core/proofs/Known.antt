@@ -10,7 +10,7 @@ use Rattle.source_model.specs.declared.Static.{Static}
 use Rattle.source_model.specs.SourceRun.{Progress, fresh, axis_in, flips, after, next_of, rest_of, axes_from, axes, progress_after}
 use Rattle.source_model.specs.Statics.{item_of, static_items}
 use Rattle.board_core.specs.History.{History, delivered, known, zero_of}
-use Rattle.board_core.specs.Legal.{Job, AxisOf, FlipOf}
+use Rattle.board_core.specs.Legal.{BoardJob, AxisOf, FlipOf}
 use Rattle.board_core.specs.Laws.{Delivers, DeliversBelow}
 use Rattle.board_core.proofs.SourceOrder.{progress_after_item, axes_from_item, axis_in_frame}
 use Rattle.board_core.proofs.Tables.{known_length, known_at, entry_of}
@@ -42,7 +42,7 @@ axes_length f [] gs = refl
 axes_length f (s ∷ ss) gs = ap length (axes_from_item f s.axis s.kind (static_items ss) gs) ∙ ap suc (axes_length (after f (item_of s) (next_of gs)) ss (rest_of gs))
 
 -- the table and the known outcomes, below p
-known_alike : (j : Job) (h : History) (table : List Given) (p : ℕ) → DeliversBelow j h table p → (q : ℕ) (s : Static) (g g' : Given) → q < p → slice_get j.products q ≡ Some s → slice_get table q ≡ Some g → slice_get (known j.products h) q ≡ Some g' → Alike s.kind g g'
+known_alike : (j : BoardJob) (h : History) (table : List Given) (p : ℕ) → DeliversBelow j h table p → (q : ℕ) (s : Static) (g g' : Given) → q < p → slice_get j.products q ≡ Some s → slice_get table q ≡ Some g → slice_get (known j.products h) q ≡ Some g' → Alike s.kind g g'
 known_alike j h table p below q s g g' l e f f' =
     go s.kind (below q s g l e f) (same_Some (unwrap_or (delivered h q) (zero_of s.kind)) g' (sym (known_at j.products h q s e) ∙ f'))
   where
@@ -51,10 +51,10 @@ known_alike j h table p below q s g g' l e f f' =
     go (kind.Measure bit) d u = rw d at u
     go (kind.Settle first size value) d u = tt
 
-known_progress : (j : Job) (h : History) (table : List Given) (p : ℕ) → length table ≡ length j.products → DeliversBelow j h table p → progress_after fresh (static_items (take p j.products)) table ≡ progress_after fresh (static_items (take p j.products)) (known j.products h)
+known_progress : (j : BoardJob) (h : History) (table : List Given) (p : ℕ) → length table ≡ length j.products → DeliversBelow j h table p → progress_after fresh (static_items (take p j.products)) table ≡ progress_after fresh (static_items (take p j.products)) (known j.products h)
 known_progress j h table p l below = progress_alike fresh j.products table (known j.products h) p l (known_length j.products h) (known_alike j h table p below)
 
-pub axis_known : (j : Job) (h : History) (table : List Given) (p : ℕ) (axis : Signed) → length table ≡ length j.products → DeliversBelow j h table p → slice_get (axes (static_items j.products) table) p ≡ Some axis → AxisOf j h p axis
+pub axis_known : (j : BoardJob) (h : History) (table : List Given) (p : ℕ) (axis : Signed) → length table ≡ length j.products → DeliversBelow j h table p → slice_get (axes (static_items j.products) table) p ≡ Some axis → AxisOf j h p axis
 axis_known j h table p axis l below e =
     let inside : p < length j.products = subst (λ n. p < n) (axes_length fresh j.products table) (slice_get_within (axes (static_items j.products) table) p axis e) in
     let s = entry_of j.products p inside in
@@ -63,6 +63,6 @@ axis_known j h table p axis l below e =
     ∙ sym (axis_in_frame fresh j.products table p s.0 s.1)
     ∙ e
 
-pub flip_known : (j : Job) (h : History) (table : List Given) (p : ℕ) (s : Static) (first size value : ℕ) (flip : Bool) → length table ≡ length j.products → DeliversBelow j h table p → slice_get j.products p ≡ Some s → s.kind ≡ kind.Settle first size value → flips (progress_after fresh (static_items (take p j.products)) table) first size value ≡ flip → FlipOf j h p flip
+pub flip_known : (j : BoardJob) (h : History) (table : List Given) (p : ℕ) (s : Static) (first size value : ℕ) (flip : Bool) → length table ≡ length j.products → DeliversBelow j h table p → slice_get j.products p ≡ Some s → s.kind ≡ kind.Settle first size value → flips (progress_after fresh (static_items (take p j.products)) table) first size value ≡ flip → FlipOf j h p flip
 flip_known j h table p s first size value flip l below e k f =
     (s, first, size, value, e, k, ap (λ x. flips x first size value) (sym (known_progress j h table p l below)) ∙ f)

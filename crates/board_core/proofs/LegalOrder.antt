@@ -15,7 +15,7 @@ use Rattle.std.proofs.lemmas.List.{take_at}
 use Rattle.source_model.specs.SourceRun.{axes}
 use Rattle.source_model.specs.Statics.{static_items}
 use Rattle.trace_laws.specs.Steps.{Step, commuting, pass}
-use Rattle.trace_laws.specs.Runs.{Trace, begun, axis_now, left_by, Flipping, flips, next, after, source_axis, source_flip}
+use Rattle.trace_laws.specs.Runs.{Trace, begun, axis_now, left_by, Flipping, flips_in_order, next, all_carried_out, source_axis, source_flip}
 use Rattle.trace_laws.specs.Orders.{stands, Waiting, SwapEqual, others}
 use Rattle.trace_laws.proofs.Swapping.{after-push}
 use Rattle.trace_laws.proofs.Sorting.{stands-append, waiting_within}
@@ -25,7 +25,7 @@ use Rattle.board_core.specs.declared.Entry.{Entry}
 use Rattle.board_core.specs.declared.Entry.TheVariants.{Claim, Deliver, Release, Settle}
 use Rattle.board_core.specs.declared.Entry.TheVariants as entry
 use Rattle.board_core.specs.History.{History, delivered, claim_place, done_place, known, zero_of}
-use Rattle.board_core.specs.Legal.{Job, AxisOf, FlipOf, Ready, IsKind, TakesState, ClaimAllowed, Allowed, Legal}
+use Rattle.board_core.specs.Legal.{BoardJob, AxisOf, FlipOf, Ready, IsKind, TakesState, ClaimAllowed, Allowed, Legal}
 use Rattle.board_core.specs.Orders.{done_in, done_of, act_of, steps_of, InSourceOrderUpToSwaps}
 use Rattle.board_core.specs.View.{claimed_axis, rotation_turns, turns_by, turns_of}
 use Rattle.board_core.specs.Laws.{ProductsOfLength, Agrees}
@@ -52,10 +52,10 @@ pub record Claimed (steps : List Step) (d : List ℕ) (p : ℕ) (axis : Signed) 
 abbrev pub Done : List Static → History → ℕ → Type 0
 Done ss h q = ((x : Given) × (delivered h q ≡ Some x) × IsSome (claimed_axis h q)) ⊎ IsSettled ss q
 
-pub record Sound (j : Job) (gs : List Given) (h : History) (d : List ℕ) : Type 0 where
+pub record Sound (j : BoardJob) (gs : List Given) (h : History) (d : List ℕ) : Type 0 where
   pub order : done_of h ≡ d
   pub waits : Waiting (pass commuting (steps_of j.products gs)) (length (steps_of j.products gs)) [] d
-  pub turns : turns_of j.products h ≡ (after (flips (steps_of j.products gs)) (steps_of j.products gs) begun d).turns
+  pub turns : turns_of j.products h ≡ (all_carried_out (flips_in_order (steps_of j.products gs)) (steps_of j.products gs) begun d).turns
   pub claims : (p : ℕ) (axis : Signed) → claimed_axis h p ≡ Some axis → Claimed (steps_of j.products gs) d p axis
   pub done : (q : ℕ) → stands q d ≡ true → Done j.products h q
 
@@ -71,17 +71,17 @@ done_more : (ss : List Static) (h es : History) (q : ℕ) → Done ss h q → Do
 done_more ss h es q (inl x) = inl (x.0, delivered-append h es q ∙ ap (λ o. or_else o (delivered es q)) x.1, ap is_some (claimed-append h es q) ∙ or_some (claimed_axis h q) (claimed_axis es q) x.2)
 done_more ss h es q (inr x) = inr x
 
-no_settle : (j : Job) (h : History) (k : Kind) (through state : Option ℕ) (first size value : ℕ) → k ≡ kind.Settle first size value → TakesState j h k through state → ⊥
+no_settle : (j : BoardJob) (h : History) (k : Kind) (through state : Option ℕ) (first size value : ℕ) → k ≡ kind.Settle first size value → TakesState j h k through state → ⊥
 no_settle j h k through state first size value e t = subst (λ x. TakesState j h x through state) e t
 
 -- a product that may be claimed isn't done
-new_claim : {gs : List Given} {j : Job} (h : History) (d : List ℕ) (p : ℕ) (s : Static) (through state : Option ℕ) → Sound j gs h d → slice_get j.products p ≡ Some s → TakesState j h s.kind through state → claim_place h p ≡ None → Done j.products h p → ⊥
+new_claim : {gs : List Given} {j : BoardJob} (h : History) (d : List ℕ) (p : ℕ) (s : Static) (through state : Option ℕ) → Sound j gs h d → slice_get j.products p ≡ Some s → TakesState j h s.kind through state → claim_place h p ≡ None → Done j.products h p → ⊥
 new_claim {j = j} h d p s through state inv e t u (inl x) = both_ways (is_some (claim_place h p)) (ap is_some u) (claimed_place h p ∙ x.2)
 new_claim {j = j} h d p s through state inv e t u (inr x) =
     no_settle j h s.kind through state x.first x.size x.value (ap (λ (z : Static). z.kind) (same_Some s x.static (sym e ∙ x.stands_there)) ∙ x.is_settle) t
 
 -- the claims behind a new one
-pushed : {gs : List Given} {j : Job} (h : History) (d : List ℕ) (p : ℕ) (axis : Signed) (through state : Option ℕ) (cells : List ℕ) (q : ℕ) (b : Signed) → Sound j gs h d → Claimed (steps_of j.products gs) d p axis → (o : Option Signed) → claimed_axis h q ≡ o → or_else o (claimed_axis (Claim p axis through state cells ∷ []) q) ≡ Some b → Claimed (steps_of j.products gs) d q b
+pushed : {gs : List Given} {j : BoardJob} (h : History) (d : List ℕ) (p : ℕ) (axis : Signed) (through state : Option ℕ) (cells : List ℕ) (q : ℕ) (b : Signed) → Sound j gs h d → Claimed (steps_of j.products gs) d p axis → (o : Option Signed) → claimed_axis h q ≡ o → or_else o (claimed_axis (Claim p axis through state cells ∷ []) q) ≡ Some b → Claimed (steps_of j.products gs) d q b
 pushed h d p axis through state cells q b inv here (Some c) e f = inv.claims q b (e ∙ f)
 pushed {gs = gs} {j = j} h d p axis through state cells q b inv here None e f = go (p == q) refl f
   where
@@ -135,13 +135,13 @@ delivered_at (entry.Step f ∷ h) q x e = let r = delivered_at h q x e in (suc r
 delivered_at (Settle p flip ∷ h) q x e = let r = delivered_at h q x e in (suc r.0, r.1)
 
 -- the table of the known outcomes is one that has what a legal history delivers
-pub known_agrees : (j : Job) (h : History) → Legal j h → Agrees (known j.products h) h
+pub known_agrees : (j : BoardJob) (h : History) → Legal j h → Agrees (known j.products h) h
 known_agrees j h legal q x e =
     let at = delivered_at h q x e in
     let a = legal at.0 (Deliver q x) at.1 in
     known_at j.products h q a.2.0 a.2.1 ∙ ap (λ o. Some (unwrap_or o (zero_of a.2.0.kind))) e
 
-module _ (n : ℕ) (j : Job) (gs : List Given) (long : ProductsOfLength n j.products) (full : length gs ≡ length j.products) where
+module _ (n : ℕ) (j : BoardJob) (gs : List Given) (long : ProductsOfLength n j.products) (full : length gs ≡ length j.products) where
   next_of_ready : (h : History) (d : List ℕ) (p : ℕ) → Sound j gs h d → Ready j h p → p < length j.products → stands p d ≡ false → Next (steps_of j.products gs) d p
   next_of_ready h d p inv ready l once = record {
     within = rw (length_steps j.products gs full) l;
@@ -240,9 +240,9 @@ module _ (n : ℕ) (j : Job) (gs : List Given) (long : ProductsOfLength n j.prod
       let now : delivered (h ++ e ∷ []) p ≡ Some g = delivered-append h (e ∷ []) p ∙ ap (λ o. or_else o (delivered (e ∷ []) p)) before ∙ itself in
       let st = step_at s.axis s.kind g in
       let there : slice_get (steps_of j.products gs) p ≡ Some st = step_with j.products gs p s g a.2.1 (agrees p g now) in
-      let t = after (flips (steps_of j.products gs)) (steps_of j.products gs) begun d in
+      let t = all_carried_out (flips_in_order (steps_of j.products gs)) (steps_of j.products gs) begun d in
       let same : axis_now t st ≡ claim.0 = same_Some (axis_now t st) claim.0 (sym (ready_axis n (steps_of j.products gs) d p st (steps_of_length n j.products gs long) inv.waits k there) ∙ c.axis_is) in
-      let x = flips (steps_of j.products gs) t p st.act in
+      let x = flips_in_order (steps_of j.products gs) t p st.act in
       record {
         order = done-push h e ∙ ap (λ w. w ++ p ∷ []) inv.order;
         waits = waiting_next (steps_of j.products gs) d p inv.waits k;
@@ -251,7 +251,7 @@ module _ (n : ℕ) (j : Job) (gs : List Given) (long : ProductsOfLength n j.prod
             ∙ ap₂ (λ u (o : Option Signed). u ++ (elim o [ None ↦ [] | Some axis ↦ rotation_turns axis g ])) inv.turns claim.1
             ∙ ap (λ u. t.turns ++ u) (sym (left_turns claim.0 s.kind g x a.2.2))
             ∙ ap (λ y. t.turns ++ left_by y st.act x) (sym same)
-            ∙ sym (ap (λ (y : Trace). y.turns) (after-push (flips (steps_of j.products gs)) (steps_of j.products gs) d p) ∙ next_turns (flips (steps_of j.products gs)) (steps_of j.products gs) t p st there);
+            ∙ sym (ap (λ (y : Trace). y.turns) (after-push (flips_in_order (steps_of j.products gs)) (steps_of j.products gs) d p) ∙ next_turns (flips_in_order (steps_of j.products gs)) (steps_of j.products gs) t p st there);
         claims = λ q axis f. claims_more d p q axis (inv.claims q axis (sym (or_none (claimed_axis h q)) ∙ sym (claimed-append h (e ∷ []) q) ∙ f));
         done = λ q f. elim (stands_push d p q f) [
           | inl y ↦ done_more j.products h (e ∷ []) q (inv.done q y)
@@ -270,8 +270,8 @@ module _ (n : ℕ) (j : Job) (gs : List Given) (long : ProductsOfLength n j.prod
       let y = entry_of gs p (omega arith) in
       let st = step_at s.axis (kind.Settle f.1 f.2 f.3) y.0 in
       let there : slice_get (steps_of j.products gs) p ≡ Some st = step_with j.products gs p s y.0 f.4 y.1 ∙ ap (λ w. Some (step_at s.axis w y.0)) f.5 in
-      let t = after (flips (steps_of j.products gs)) (steps_of j.products gs) begun d in
-      let same : flip ≡ flips (steps_of j.products gs) t p st.act =
+      let t = all_carried_out (flips_in_order (steps_of j.products gs)) (steps_of j.products gs) begun d in
+      let same : flip ≡ flips_in_order (steps_of j.products gs) t p st.act =
       flip_of_next h d p flip inv agrees k f ∙ sym (flips_along n (steps_of j.products gs) d p [] st (steps_of_length n j.products gs long) (waiting_next (steps_of j.products gs) d p inv.waits k) there) in
       record {
         order = done-push h e ∙ ap (λ w. w ++ p ∷ []) inv.order;
@@ -280,7 +280,7 @@ module _ (n : ℕ) (j : Job) (gs : List Given) (long : ProductsOfLength n j.prod
             turns-push j.products h e
             ∙ ap₂ (λ u (o : Option Static). u ++ (elim o [ None ↦ [] | Some z ↦ turn_if flip (carry u z.axis) half ])) inv.turns f.4
             ∙ ap (λ x. t.turns ++ turn_if x (carry t.turns s.axis) half) same
-            ∙ sym (ap (λ (z : Trace). z.turns) (after-push (flips (steps_of j.products gs)) (steps_of j.products gs) d p) ∙ next_turns (flips (steps_of j.products gs)) (steps_of j.products gs) t p st there);
+            ∙ sym (ap (λ (z : Trace). z.turns) (after-push (flips_in_order (steps_of j.products gs)) (steps_of j.products gs) d p) ∙ next_turns (flips_in_order (steps_of j.products gs)) (steps_of j.products gs) t p st there);
         claims = λ q axis g. claims_more d p q axis (inv.claims q axis (sym (or_none (claimed_axis h q)) ∙ sym (claimed-append h (e ∷ []) q) ∙ g));
         done = λ q g. elim (stands_push d p q g) [
           | inl z ↦ done_more j.products h (e ∷ []) q (inv.done q z)

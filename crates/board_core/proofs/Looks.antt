@@ -11,7 +11,7 @@ use Rattle.source_model.specs.declared.Static.{Static}
 use Rattle.source_model.specs.Used.{acts, acts_at}
 use Rattle.patch_layout.specs.declared.look.Look.{Look}
 use Rattle.board_core.specs.History.{History}
-use Rattle.board_core.specs.Legal.{Job}
+use Rattle.board_core.specs.Legal.{BoardJob}
 use Rattle.board_core.specs.View.{turns_of, LeastWait}
 use Rattle.board_core.specs.Books.{HoldersAre}
 use Rattle.board_core.specs.Position.{Position, past, IsLegal}
@@ -40,7 +40,7 @@ options_equal None None f g = refl
 options_equal None (Some q) f g = g q refl
 options_equal (Some q) p f g = sym (f q refl)
 
-holders_equal : (j : Job) (h : History) (xs ys : List (Option ℕ)) → HoldersAre j h xs → HoldersAre j h ys → xs ≡ ys
+holders_equal : (j : BoardJob) (h : History) (xs ys : List (Option ℕ)) → HoldersAre j h xs → HoldersAre j h ys → xs ≡ ys
 holders_equal j h xs ys a b =
     let long : length xs ≡ length ys = a.0 ∙ sym b.0 in
     same_lists xs ys long (λ c l.

@@ -11,7 +11,7 @@ use Rattle.patch_layout.specs.Case.{case_of}
 use Rattle.board_core.specs.declared.board.ClaimWhy.TheVariants as claim
 use Rattle.board_core.specs.Legal.{ClaimCell}
 use Rattle.board_core.specs.Position.{Position, past}
-use Rattle.board_core.specs.Cells.{LeastTaken}
+use Rattle.board_core.specs.inside.Cells.{LeastTaken}
 use Rattle.board_core.specs.Books.{HoldersAre}
 use Rattle.board_core.specs.Causes.{is_rotation, IsProduct, HasAxis, Fits, IsFree, IsClaimable, ClaimRefusedBecause, ready, case_for}
 use Rattle.board_core.proofs.Claiming.{judged_case, region_within, region_few, least_is_held, none_is_held, empty_list, some_list}

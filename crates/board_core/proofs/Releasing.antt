@@ -10,12 +10,12 @@ use Rattle.board_core.specs.declared.Entry.{Entry}
 use Rattle.board_core.specs.declared.Entry.TheVariants.{Claim, Deliver, Release, Settle}
 use Rattle.board_core.specs.declared.Entry.TheVariants as entry
 use Rattle.board_core.specs.History.{History, delivered, is_done_by, done_place, release_place}
-use Rattle.board_core.specs.Legal.{Job, Allowed, IsKind, FlipOf, Legal}
+use Rattle.board_core.specs.Legal.{BoardJob, Allowed, IsKind, FlipOf, Legal}
 use Rattle.std.specs.Option.{MatchOption}
 use Rattle.board_core.specs.Position.{Position, past}
 use Rattle.board_core.specs.Books.{TakesRegion, standing_of}
 use Rattle.board_core.specs.Causes.{IsProduct, ReleaseRefusedBecause}
-use Rattle.board_core.specs.Judging.{by_places, why_not_released}
+use Rattle.board_core.specs.inside.Judging.{by_places, why_not_released}
 use Rattle.board_core.proofs.Places.{some_of, none_of, delivered_done, done_stands}
 use Rattle.board_core.proofs.LegalOrder.{delivered_at}
 use Rattle.board_core.proofs.Standings.{found_at}
@@ -47,7 +47,7 @@ no_kind (kind.Measure bit) g n i = n tt
 no_kind (kind.Settle first size value) g n i = i
 
 -- a settled product has no delivery
-pub settled_undelivered : (j : Job) (h : History) (p : ℕ) (s : Static) → Legal j h → slice_get j.products p ≡ Some s → (TakesRegion s.kind → ⊥) → delivered h p ≡ None
+pub settled_undelivered : (j : BoardJob) (h : History) (p : ℕ) (s : Static) → Legal j h → slice_get j.products p ≡ Some s → (TakesRegion s.kind → ⊥) → delivered h p ≡ None
 settled_undelivered j h p s legal e n = none_of (delivered h p) (go (delivered h p) refl)
   where
     go : (o : Option Given) → delivered h p ≡ o → is_some (delivered h p) ≡ false
@@ -65,13 +65,13 @@ undone_undelivered h p n = none_of (delivered h p) (go (delivered h p) refl)
     go None f = ap is_some f
     go (Some g) f = absurd (true≢false (sym (done_stands h p ∙ delivered_done h p (ap is_some f)) ∙ ap is_some n))
 
-settle_kind : (j : Job) (h : History) (p : ℕ) (flip : Bool) (s : Static) → slice_get j.products p ≡ Some s → TakesRegion s.kind → FlipOf j h p flip → ⊥
+settle_kind : (j : BoardJob) (h : History) (p : ℕ) (flip : Bool) (s : Static) → slice_get j.products p ≡ Some s → TakesRegion s.kind → FlipOf j h p flip → ⊥
 settle_kind j h p flip s e t f =
     let same = same_Some s f.0 (sym e ∙ f.4) in
     subst TakesRegion (ap (λ (x : Static). x.kind) same ∙ f.5) t
 
 -- a done product with a region is delivered
-pub done_delivered : (j : Job) (h : History) (p k : ℕ) (s : Static) → Legal j h → slice_get j.products p ≡ Some s → TakesRegion s.kind → done_place h p ≡ Some k → IsSome (delivered h p)
+pub done_delivered : (j : BoardJob) (h : History) (p k : ℕ) (s : Static) → Legal j h → slice_get j.products p ≡ Some s → TakesRegion s.kind → done_place h p ≡ Some k → IsSome (delivered h p)
 done_delivered j h p k s legal e t d =
     let at = found_at (is_done_by p) h k d in
     go at.0 at.1 at.2
@@ -98,7 +98,7 @@ release_judged b p s legal e = go s.kind refl
     go (kind.Settle first size value) f = (slice_get_within b.job.products p s e, settled_undelivered b.job (past b) p s legal e (λ t. subst TakesRegion f t))
 
 -- a released product is one
-pub release_within : (j : Job) (h : History) (p : ℕ) → Legal j h → Allowed j h (Release p) → p < length j.products
+pub release_within : (j : BoardJob) (h : History) (p : ℕ) → Legal j h → Allowed j h (Release p) → p < length j.products
 release_within j h p legal a =
     let g = some_of (delivered h p) a.0 in
     let d = delivered_at h p g.0 g.1 in

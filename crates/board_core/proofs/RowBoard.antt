@@ -9,7 +9,7 @@ use Rattle.pauli_product.specs.Signed.{OfLength}
 use Rattle.source_model.specs.declared.Static.{Static}
 use Rattle.source_model.specs.Used.{acts, acts_at, takes_region, is_used}
 use Rattle.patch_layout.specs.Grid.{Grid, Open}
-use Rattle.patch_layout.specs.Row.{wanted, IsUsed}
+use Rattle.patch_layout.specs.Row.{demand, IsUsed}
 use Rattle.board_core.specs.Laws.{ProductsOfLength}
 use Rattle.magic_pool.specs.declared.Fail.{Fail}
 use Rattle.magic_pool.specs.Pooled.{Pooled}
@@ -34,9 +34,9 @@ two_used zero l = refl
 two_used (suc zero) l = refl
 two_used (suc (suc q)) l = absurd (omega arith)
 
-pub open_for_two : (g : Grid) (products : List Static) → Open g (wanted (true ∷ true ∷ []) true) → ProductsOfLength 2 products → IsOpenFor g products
+pub open_for_two : (g : Grid) (products : List Static) → Open g (demand (true ∷ true ∷ []) true) → ProductsOfLength 2 products → IsOpenFor g products
 open_for_two g products is_open long = (
-  wanted (true ∷ true ∷ []) true,
+  demand (true ∷ true ∷ []) true,
   record { used = λ q u. two_used q (used_within 2 products q long u); rotations = λ p s e r. refl },
   is_open,
 )

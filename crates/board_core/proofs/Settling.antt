@@ -14,15 +14,15 @@ use Rattle.source_model.specs.declared.Static.{Static}
 use Rattle.source_model.specs.Outcomes.{raw_of, bit_of}
 use Rattle.source_model.specs.SourceRun.{fresh, progress_after}
 use Rattle.source_model.specs.Statics.{static_items, commuting}
-use Rattle.trace_laws.specs.Steps.{Step, writes}
-use Rattle.trace_laws.specs.Runs.{Trace, axis_of, bit_behind, bit_below, plain, plain_next}
+use Rattle.trace_laws.specs.Steps.{Step, act_writes}
+use Rattle.trace_laws.specs.Runs.{Trace, executed_axis, bit_after_step, bit_below, plain, plain_next}
 use Rattle.trace_laws.proofs.Agree.{numbers_agree}
 use Rattle.trace_laws.proofs.Plain.{source_axis_at}
 use Rattle.board_core.specs.History.{History, delivered, done_place, known, zero_of}
-use Rattle.board_core.specs.Legal.{Job, FlipOf, Ready, Legal}
+use Rattle.board_core.specs.Legal.{BoardJob, FlipOf, Ready, Legal}
 use Rattle.board_core.specs.Orders.{act_of, steps_of}
 use Rattle.board_core.specs.Laws.{ProductsOfLength}
-use Rattle.board_core.specs.BitsNow.{WritesBit, HasOutcome, LastWritten}
+use Rattle.board_core.specs.inside.BitsNow.{WritesBit, HasOutcome, LastWritten}
 use Rattle.board_core.proofs.SourceOrder.{step_at, tied_behind, axes_of_source}
 use Rattle.board_core.proofs.Tables.{known_length, known_at, step_with, entry_of}
 use Rattle.board_core.proofs.LegalOrder.{known_agrees, legal_claims}
@@ -50,27 +50,27 @@ writer_waits s w b first size value e f l m = rw (e, f) (not_first (commute s.ax
 
 -- ---- the bits in source order
 -- what doesn't write the bit is passed over
-skipped : (steps : List Step) (done : List (ℕ × Signed)) (b m k : ℕ) → ((q : ℕ) (s : Step) → m ≤ q → q < m + k → slice_get steps q ≡ Some s → writes s.act b ≡ false) → bit_below steps done (m + k) b ≡ bit_below steps done m b
+skipped : (steps : List Step) (done : List (ℕ × Signed)) (b m k : ℕ) → ((q : ℕ) (s : Step) → m ≤ q → q < m + k → slice_get steps q ≡ Some s → act_writes s.act b ≡ false) → bit_below steps done (m + k) b ≡ bit_below steps done m b
 skipped steps done b m zero h = ap (λ n. bit_below steps done n b) (let e : m + zero ≡ m = omega arith in e)
 skipped steps done b m (suc k) h =
     ap (λ n. bit_below steps done n b) (let e : m + suc k ≡ suc (m + k) = omega arith in e)
     ∙ one (slice_get steps (m + k)) refl
     ∙ skipped steps done b m k (λ q s l u e. h q s l (omega arith) e)
   where
-    none : (s : Step) (x : Option Signed) (before : Bool) → writes s.act b ≡ false → bit_behind (Some s) x b before ≡ before
+    none : (s : Step) (x : Option Signed) (before : Bool) → act_writes s.act b ≡ false → bit_after_step (Some s) x b before ≡ before
     none s None before w = refl
     none s (Some a) before w = rw w refl
 
-    one : (o : Option Step) → slice_get steps (m + k) ≡ o → bit_behind o (axis_of done (m + k)) b (bit_below steps done (m + k) b) ≡ bit_below steps done (m + k) b
+    one : (o : Option Step) → slice_get steps (m + k) ≡ o → bit_after_step o (executed_axis done (m + k)) b (bit_below steps done (m + k) b) ≡ bit_below steps done (m + k) b
     one None e = refl
-    one (Some s) e = none s (axis_of done (m + k)) (bit_below steps done (m + k) b) (h (m + k) s (omega arith) (omega arith) e)
+    one (Some s) e = none s (executed_axis done (m + k)) (bit_below steps done (m + k) b) (h (m + k) s (omega arith) (omega arith) e)
 
 -- the axis of a product below m
-plain_other : (steps : List Step) (t : Trace) (m p : ℕ) (o : Option Step) → (m == p) ≡ false → axis_of (plain_next steps t m o).axes p ≡ axis_of t.axes p
+plain_other : (steps : List Step) (t : Trace) (m p : ℕ) (o : Option Step) → (m == p) ≡ false → executed_axis (plain_next steps t m o).axes p ≡ executed_axis t.axes p
 plain_other steps t m p None e = refl
 plain_other steps t m p (Some s) e = rw e refl
 
-plain_below : (steps : List Step) (m p : ℕ) (s : Step) → p < m → slice_get steps p ≡ Some s → axis_of (plain steps m).axes p ≡ Some (pull (plain steps p).turns s.axis)
+plain_below : (steps : List Step) (m p : ℕ) (s : Step) → p < m → slice_get steps p ≡ Some s → executed_axis (plain steps m).axes p ≡ Some (pull (plain steps p).turns s.axis)
 plain_below steps zero p s l e = absurd (omega arith)
 plain_below steps (suc m) p s l e =
     elim (cases_Bool (m == p)) [
@@ -78,13 +78,13 @@ plain_below steps (suc m) p s l e =
       | inr f ↦ plain_other steps (plain steps m) m p (slice_get steps m) f ∙ plain_below steps m p s (let ne = eqb-false m p f in omega arith) e
     ]
 
-writes_measure : (k : Kind) (g : Given) (b : ℕ) → writes (act_of k g) b ≡ true → k ≡ kind.Measure b
+writes_measure : (k : Kind) (g : Given) (b : ℕ) → act_writes (act_of k g) b ≡ true → k ≡ kind.Measure b
 writes_measure kind.Rotation g b e = absurd (true≢false (sym e))
 writes_measure (kind.Measure bit) g b e = ap kind.Measure (eqb-true bit b e)
 writes_measure (kind.Settle first size value) g b e = absurd (true≢false (sym e))
 
 -- ---- one bit
-module _ (n : ℕ) (j : Job) (h : History) (p : ℕ) (s : Static) (first size value : ℕ) (long : ProductsOfLength n j.products) (legal : Legal j h) (there : slice_get j.products p ≡ Some s) (is : s.kind ≡ kind.Settle first size value) (once : done_place h p ≡ None) (ready : Ready j h p) where
+module _ (n : ℕ) (j : BoardJob) (h : History) (p : ℕ) (s : Static) (first size value : ℕ) (long : ProductsOfLength n j.products) (legal : Legal j h) (there : slice_get j.products p ≡ Some s) (is : s.kind ≡ kind.Settle first size value) (once : done_place h p ≡ None) (ready : Ready j h p) where
   within : p < length j.products
   within = slice_get_within j.products p s there
 
@@ -111,22 +111,22 @@ module _ (n : ℕ) (j : Job) (h : History) (p : ℕ) (s : Static) (first size va
           differ e = cc
 
   -- what doesn't write the bit, where each writer below p is at most q
-  silent : (b q : ℕ) (k : ℕ) (st : Step) → ((r : ℕ) → r < p → WritesBit j b r → r ≤ q) → q < k → k < p → slice_get (steps_of j.products (known j.products h)) k ≡ Some st → writes st.act b ≡ false
+  silent : (b q : ℕ) (k : ℕ) (st : Step) → ((r : ℕ) → r < p → WritesBit j b r → r ≤ q) → q < k → k < p → slice_get (steps_of j.products (known j.products h)) k ≡ Some st → act_writes st.act b ≡ false
   silent b q k st most l m e =
       let w = entry_of j.products k (let in_range = within in omega arith) in
       let g = unwrap_or (delivered h k) (zero_of w.0.kind) in
       let is_step = same_Some (step_at w.0.axis w.0.kind g) st (sym (step_of k w.0 w.1) ∙ e) in
-      false_from_ne_true (writes st.act b) (λ t.
-      let kd : w.0.kind ≡ kind.Measure b = writes_measure w.0.kind g b (ap (λ (x : Step). writes x.act b) is_step ∙ t) in
+      false_from_ne_true (act_writes st.act b) (λ t.
+      let kd : w.0.kind ≡ kind.Measure b = writes_measure w.0.kind g b (ap (λ (x : Step). act_writes x.act b) is_step ∙ t) in
       let least : k ≤ q = most k m (w.0, w.1, kd) in
       absurd (omega arith))
 
-  silent_all : (b : ℕ) (k : ℕ) (st : Step) → ((r : ℕ) → r < p → WritesBit j b r → ⊥) → k < p → slice_get (steps_of j.products (known j.products h)) k ≡ Some st → writes st.act b ≡ false
+  silent_all : (b : ℕ) (k : ℕ) (st : Step) → ((r : ℕ) → r < p → WritesBit j b r → ⊥) → k < p → slice_get (steps_of j.products (known j.products h)) k ≡ Some st → act_writes st.act b ≡ false
   silent_all b k st none m e =
       let w = entry_of j.products k (let in_range = within in omega arith) in
       let g = unwrap_or (delivered h k) (zero_of w.0.kind) in
       let is_step = same_Some (step_at w.0.axis w.0.kind g) st (sym (step_of k w.0 w.1) ∙ e) in
-      false_from_ne_true (writes st.act b) (λ t. none k m (w.0, w.1, writes_measure w.0.kind g b (ap (λ (x : Step). writes x.act b) is_step ∙ t)))
+      false_from_ne_true (act_writes st.act b) (λ t. none k m (w.0, w.1, writes_measure w.0.kind g b (ap (λ (x : Step). act_writes x.act b) is_step ∙ t)))
 
   -- the bit at the last writer
   at_writer : (b q : ℕ) (v : Bool) → WritesBit j b q → HasOutcome h q v → q < p → bit_below (steps_of j.products (known j.products h)) (plain (steps_of j.products (known j.products h)) p).axes (suc q) b ≡ v
@@ -138,12 +138,12 @@ module _ (n : ℕ) (j : Job) (h : History) (p : ℕ) (s : Static) (first size va
       let same : Some (pull (plain (steps_of j.products gs) q).turns w.0.axis) ≡ Some o.0 =
       sym (source_axis_at (steps_of j.products gs) q st here) ∙ sym (axes_of_source j.products gs q w.0 (known_length j.products h) w.1)
       ∙ legal_claims n j gs long (known_length j.products h) h q o.0 legal (known_agrees j h legal) o.2 in
-      ap₂ (λ (x : Option Step) (y : Option Signed). bit_behind x y b (bit_below (steps_of j.products gs) (plain (steps_of j.products gs) p).axes q b)) here (own ∙ same)
-      ∙ ap₂ (λ (k : Kind) (y : Option Given). bit_behind (Some (step_at w.0.axis k (unwrap_or y (zero_of k)))) (Some o.0) b (bit_below (steps_of j.products gs) (plain (steps_of j.products gs) p).axes q b)) w.2 o.3
+      ap₂ (λ (x : Option Step) (y : Option Signed). bit_after_step x y b (bit_below (steps_of j.products gs) (plain (steps_of j.products gs) p).axes q b)) here (own ∙ same)
+      ∙ ap₂ (λ (k : Kind) (y : Option Given). bit_after_step (Some (step_at w.0.axis k (unwrap_or y (zero_of k)))) (Some o.0) b (bit_below (steps_of j.products gs) (plain (steps_of j.products gs) p).axes q b)) w.2 o.3
       ∙ written (eq-eqb b b refl) (bit_below (steps_of j.products gs) (plain (steps_of j.products gs) p).axes q b)
       ∙ sym o.4
     where
-      written : (b == b) ≡ true → (before : Bool) → bit_behind (Some (step_at w.0.axis (kind.Measure b) o.1)) (Some o.0) b before ≡ effective o.0 (raw_of o.1)
+      written : (b == b) ≡ true → (before : Bool) → bit_after_step (Some (step_at w.0.axis (kind.Measure b) o.1)) (Some o.0) b before ≡ effective o.0 (raw_of o.1)
       written e before = rw e refl
 
   settled_bit : (b : ℕ) (by : Option ℕ) (v : Bool) → first ≤ b → b < first + size → LastWritten j h b by v → bit_below (steps_of j.products (known j.products h)) (plain (steps_of j.products (known j.products h)) p).axes p b ≡ v

@@ -7,12 +7,12 @@ use Rattle.std.proofs.lemmas.Grind.{flat_map-append}
 use Rattle.trace_laws.specs.Orders.{upto, others, stands, Exchanged, same, swapped, Waiting}
 use Rattle.trace_laws.proofs.Sorting.{sorted_out, waiting-push}
 use Rattle.magic_pool.specs.declared.Fail.{Fail}
-use Rattle.magic_pool.specs.Recount.{steps_of, is_made, makers_of, ready_of, ready_from}
+use Rattle.magic_pool.specs.Recount.{step_count, is_made, makers_of, ready_of, ready_from}
 use Rattle.board_core.specs.declared.Entry.{Entry}
 use Rattle.board_core.specs.declared.Entry.TheVariants.{Claim, Deliver, Release, Settle}
 use Rattle.board_core.specs.declared.Entry.TheVariants as entry
 use Rattle.board_core.specs.History.{History, is_claim_of, is_release_of, claim_place, done_place, release_place, delivered, steps_in, steps, states_in, taken_states}
-use Rattle.board_core.specs.Legal.{Job, Allowed, Legal}
+use Rattle.board_core.specs.Legal.{BoardJob, Allowed, Legal}
 use Rattle.board_core.specs.Orders.{done_in, done_of}
 use Rattle.board_core.specs.Limits.{WithinLimits, AreFactories}
 use Rattle.board_core.proofs.Places.{place_cons, done_stands, some_of}
@@ -101,7 +101,7 @@ each_adds (Settle p flip ∷ es) = let ih = each_adds es in omega arith
 pushed : (into : Entry → List ℕ) (h : History) (e : Entry) → flat_map into (h ++ e ∷ []) ≡ flat_map into h ++ into e
 pushed into h e = flat_map-append into h (e ∷ []) ∙ ap (λ x. flat_map into h ++ x) (append-nil (into e))
 
-record Counted (j : Job) (h : History) : Type 0 where
+record Counted (j : BoardJob) (h : History) : Type 0 where
   claims : Once (length j.products) (claims_of h)
   dones : Once (length j.products) (done_of h)
   releases : Once (length j.products) (releases_of h)
@@ -110,7 +110,7 @@ record Counted (j : Job) (h : History) : Type 0 where
 none_stands : (o : Option ℕ) (b : Bool) → is_some o ≡ b → o ≡ None → b ≡ false
 none_stands o b e n = sym e ∙ ap is_some n
 
-claims_on : (j : Job) (h : History) (e : Entry) → Allowed j h e → Once (length j.products) (claims_of h) → Once (length j.products) (claims_of h ++ claim_in e)
+claims_on : (j : BoardJob) (h : History) (e : Entry) → Allowed j h e → Once (length j.products) (claims_of h) → Once (length j.products) (claims_of h ++ claim_in e)
 claims_on j h (Claim p axis through state cells) a once =
     one_more (length j.products) (claims_of h) p once (slice_get_within j.products p a.product.0 a.product.1) (none_stands (claim_place h p) (stands p (claims_of h)) (claims_stand h p) a.unclaimed)
 claims_on j h (Deliver p g) a once = rw (append-nil (claims_of h)) once
@@ -118,7 +118,7 @@ claims_on j h (Release p) a once = rw (append-nil (claims_of h)) once
 claims_on j h (entry.Step f) a once = rw (append-nil (claims_of h)) once
 claims_on j h (Settle p flip) a once = rw (append-nil (claims_of h)) once
 
-dones_on : (j : Job) (h : History) (e : Entry) → Allowed j h e → Once (length j.products) (done_of h) → Once (length j.products) (done_of h ++ done_in e)
+dones_on : (j : BoardJob) (h : History) (e : Entry) → Allowed j h e → Once (length j.products) (done_of h) → Once (length j.products) (done_of h ++ done_in e)
 dones_on j h (Claim p axis through state cells) a once = rw (append-nil (done_of h)) once
 dones_on j h (Deliver p g) a once =
     one_more (length j.products) (done_of h) p once (slice_get_within j.products p a.2.0 a.2.1) (none_stands (done_place h p) (stands p (done_of h)) (done_stands h p) a.1)
@@ -127,7 +127,7 @@ dones_on j h (entry.Step f) a once = rw (append-nil (done_of h)) once
 dones_on j h (Settle p flip) a once =
     one_more (length j.products) (done_of h) p once (slice_get_within j.products p a.2.0 a.2.4) (none_stands (done_place h p) (stands p (done_of h)) (done_stands h p) a.0)
 
-releases_on : (j : Job) (h : History) (e : Entry) → Legal j h → Allowed j h e → Once (length j.products) (releases_of h) → Once (length j.products) (releases_of h ++ release_in e)
+releases_on : (j : BoardJob) (h : History) (e : Entry) → Legal j h → Allowed j h e → Once (length j.products) (releases_of h) → Once (length j.products) (releases_of h ++ release_in e)
 releases_on j h (Claim p axis through state cells) legal a once = rw (append-nil (releases_of h)) once
 releases_on j h (Deliver p g) legal a once = rw (append-nil (releases_of h)) once
 releases_on j h (Release p) legal a once =
@@ -152,7 +152,7 @@ record Stocked (fails : List Fail) (st taken : List ℕ) : Type 0 where
   stepped : Below 16 st
   makers : Below 16 (makers_of fails st)
   stock : (f : ℕ) → length (ready_of fails st taken f) ≤ 16
-  running : (f : ℕ) → steps_of f st % 11 ≢ 0 → length (ready_of fails st taken f) < 16
+  running : (f : ℕ) → step_count f st % 11 ≢ 0 → length (ready_of fails st taken f) < 16
 
 stocked_taken : (fails : List Fail) (st taken : List ℕ) (s : ℕ) → Stocked fails st taken → Stocked fails st (taken ++ s ∷ [])
 stocked_taken fails st taken s x = record {
@@ -166,40 +166,40 @@ made_ends : (fails : List Fail) (f n : ℕ) → is_made fails f n ≡ true → n
 made_ends fails f n e = eqb-true (n % 11) 0 ((and_parts _ _ e).0)
 
 -- a step of g: what f has ready
-ready_after : (fails : List Fail) (st taken : List ℕ) (g f store : ℕ) → store ≤ 16 → (steps_of g st % 11 ≢ 0) ⊎ (length (ready_of fails st taken g) < store) → Stocked fails st taken →
-    (length (ready_of fails (st ++ g ∷ []) taken f) ≤ 16) × (steps_of f (st ++ g ∷ []) % 11 ≢ 0 → length (ready_of fails (st ++ g ∷ []) taken f) < 16)
+ready_after : (fails : List Fail) (st taken : List ℕ) (g f store : ℕ) → store ≤ 16 → (step_count g st % 11 ≢ 0) ⊎ (length (ready_of fails st taken g) < store) → Stocked fails st taken →
+    (length (ready_of fails (st ++ g ∷ []) taken f) ≤ 16) × (step_count f (st ++ g ∷ []) % 11 ≢ 0 → length (ready_of fails (st ++ g ∷ []) taken f) < 16)
 ready_after fails st taken g f store few may x = elim (cases_Bool (g == f)) [ inl e ↦ same_one (eqb-true g f e) e | inr e ↦ other_one e ]
   where
-    other_one : (g == f) ≡ false → (length (ready_of fails (st ++ g ∷ []) taken f) ≤ 16) × (steps_of f (st ++ g ∷ []) % 11 ≢ 0 → length (ready_of fails (st ++ g ∷ []) taken f) < 16)
+    other_one : (g == f) ≡ false → (length (ready_of fails (st ++ g ∷ []) taken f) ≤ 16) × (step_count f (st ++ g ∷ []) % 11 ≢ 0 → length (ready_of fails (st ++ g ∷ []) taken f) < 16)
     other_one e =
         let more = ready_step fails st taken g f in
-        let none : one_if (g == f && is_made fails g (steps_of g st + 1)) ≡ 0 = ap (λ b. one_if (b && is_made fails g (steps_of g st + 1))) e in
+        let none : one_if (g == f && is_made fails g (step_count g st + 1)) ≡ 0 = ap (λ b. one_if (b && is_made fails g (step_count g st + 1))) e in
         let old = x.stock f in
-        let count : steps_of f (st ++ g ∷ []) ≡ steps_of f st + 0 = push_tally f g st ∙ ap (λ b. steps_of f st + one_if b) e in
-        (omega arith, λ r. let was = x.running f (λ z. r (let y : steps_of f (st ++ g ∷ []) % 11 ≡ 0 = omega arith in y)) in omega arith)
+        let count : step_count f (st ++ g ∷ []) ≡ step_count f st + 0 = push_tally f g st ∙ ap (λ b. step_count f st + one_if b) e in
+        (omega arith, λ r. let was = x.running f (λ z. r (let y : step_count f (st ++ g ∷ []) % 11 ≡ 0 = omega arith in y)) in omega arith)
 
-    same_one : g ≡ f → (g == f) ≡ true → (length (ready_of fails (st ++ g ∷ []) taken f) ≤ 16) × (steps_of f (st ++ g ∷ []) % 11 ≢ 0 → length (ready_of fails (st ++ g ∷ []) taken f) < 16)
+    same_one : g ≡ f → (g == f) ≡ true → (length (ready_of fails (st ++ g ∷ []) taken f) ≤ 16) × (step_count f (st ++ g ∷ []) % 11 ≢ 0 → length (ready_of fails (st ++ g ∷ []) taken f) < 16)
     same_one s e =
         let more = ready_step fails st taken g f in
-        let here : one_if (g == f && is_made fails g (steps_of g st + 1)) ≡ one_if (is_made fails f (steps_of f st + 1)) = ap₂ (λ b y. one_if (b && is_made fails y (steps_of y st + 1))) e s in
-        let count : steps_of f (st ++ g ∷ []) ≡ steps_of f st + 1 = push_tally f g st ∙ ap (λ b. steps_of f st + one_if b) e in
-        let mine : (steps_of f st % 11 ≢ 0) ⊎ (length (ready_of fails st taken f) < store) = subst (λ y. (steps_of y st % 11 ≢ 0) ⊎ (length (ready_of fails st taken y) < store)) s may in
-        elim (cases_Bool (is_made fails f (steps_of f st + 1))) [
+        let here : one_if (g == f && is_made fails g (step_count g st + 1)) ≡ one_if (is_made fails f (step_count f st + 1)) = ap₂ (λ b y. one_if (b && is_made fails y (step_count y st + 1))) e s in
+        let count : step_count f (st ++ g ∷ []) ≡ step_count f st + 1 = push_tally f g st ∙ ap (λ b. step_count f st + one_if b) e in
+        let mine : (step_count f st % 11 ≢ 0) ⊎ (length (ready_of fails st taken f) < store) = subst (λ y. (step_count y st % 11 ≢ 0) ⊎ (length (ready_of fails st taken y) < store)) s may in
+        elim (cases_Bool (is_made fails f (step_count f st + 1))) [
           | inl m ↦
-              let ends = made_ends fails f (steps_of f st + 1) m in
-              let one : one_if (is_made fails f (steps_of f st + 1)) ≡ 1 = ap one_if m in
+              let ends = made_ends fails f (step_count f st + 1) m in
+              let one : one_if (is_made fails f (step_count f st + 1)) ≡ 1 = ap one_if m in
               let was = x.running f (λ z. absurd (omega arith)) in
               (omega arith, λ r. absurd (r (omega arith)))
           | inr m ↦
-              let none : one_if (is_made fails f (steps_of f st + 1)) ≡ 0 = ap one_if m in
+              let none : one_if (is_made fails f (step_count f st + 1)) ≡ 0 = ap one_if m in
               let old = x.stock f in
               (omega arith, λ r. elim mine [ inl z ↦ (let was = x.running f z in omega arith) | inr l ↦ omega arith ])
         ]
 
-stocked_step : (fails : List Fail) (st taken : List ℕ) (g store : ℕ) → g < 16 → store ≤ 16 → (steps_of g st % 11 ≢ 0) ⊎ (length (ready_of fails st taken g) < store) → Stocked fails st taken → Stocked fails (st ++ g ∷ []) taken
+stocked_step : (fails : List Fail) (st taken : List ℕ) (g store : ℕ) → g < 16 → store ≤ 16 → (step_count g st % 11 ≢ 0) ⊎ (length (ready_of fails st taken g) < store) → Stocked fails st taken → Stocked fails (st ++ g ∷ []) taken
 stocked_step fails st taken g store low few may x = record {
   stepped = Below-append 16 st (g ∷ []) x.stepped (low, tt);
-  makers = rw (makers-push fails st g) (Below-append 16 (makers_of fails st) (if is_made fails g (steps_of g st + 1) then g ∷ [] else []) x.makers (one (is_made fails g (steps_of g st + 1))));
+  makers = rw (makers-push fails st g) (Below-append 16 (makers_of fails st) (if is_made fails g (step_count g st + 1) then g ∷ [] else []) x.makers (one (is_made fails g (step_count g st + 1))));
   stock = λ f. (ready_after fails st taken g f store few may x).0;
   running = λ f. (ready_after fails st taken g f store few may x).1;
 }
@@ -208,7 +208,7 @@ stocked_step fails st taken g store low few may x = record {
     one true = (low, tt)
     one false = tt
 
-stocked_on : (j : Job) (h : History) (e : Entry) → AreFactories j.grid → Allowed j h e → Stocked j.fails (steps h) (taken_states h) → Stocked j.fails (steps h ++ steps_in e) (taken_states h ++ states_in e)
+stocked_on : (j : BoardJob) (h : History) (e : Entry) → AreFactories j.grid → Allowed j h e → Stocked j.fails (steps h) (taken_states h) → Stocked j.fails (steps h ++ steps_in e) (taken_states h ++ states_in e)
 stocked_on j h (Claim p axis through None cells) ranges a x = rw (append-nil (steps h), append-nil (taken_states h)) x
 stocked_on j h (Claim p axis through (Some s) cells) ranges a x = rw (append-nil (steps h)) (stocked_taken j.fails (steps h) (taken_states h) s x)
 stocked_on j h (Deliver p g) ranges a x = rw (append-nil (steps h), append-nil (taken_states h)) x
@@ -218,7 +218,7 @@ stocked_on j h (entry.Step f) ranges a x =
     rw (append-nil (taken_states h)) (stocked_step j.fails (steps h) (taken_states h) f a.0 within.0 within.2 a.2 x)
 stocked_on j h (Settle p flip) ranges a x = rw (append-nil (steps h), append-nil (taken_states h)) x
 
-counted_on : (j : Job) (h : History) (e : Entry) → Legal j h → Allowed j h e → Counted j h → Counted j (h ++ e ∷ [])
+counted_on : (j : BoardJob) (h : History) (e : Entry) → Legal j h → Allowed j h e → Counted j h → Counted j (h ++ e ∷ [])
 counted_on j h e legal a x = record {
   claims = rw (pushed claim_in h e) (claims_on j h e a x.claims);
   dones = rw (pushed done_in h e) (dones_on j h e a x.dones);
@@ -226,7 +226,7 @@ counted_on j h e legal a x = record {
   few_taken = rw (pushed states_in h e, pushed claim_in h e) (taken_on h e x.few_taken);
 }
 
-both_on : (j : Job) (h es : History) → AreFactories j.grid → Legal j (h ++ es) → Counted j h → Stocked j.fails (steps h) (taken_states h) → Counted j (h ++ es) × Stocked j.fails (steps (h ++ es)) (taken_states (h ++ es))
+both_on : (j : BoardJob) (h es : History) → AreFactories j.grid → Legal j (h ++ es) → Counted j h → Stocked j.fails (steps h) (taken_states h) → Counted j (h ++ es) × Stocked j.fails (steps (h ++ es)) (taken_states (h ++ es))
 both_on j h [] ranges legal x y = rw (append-nil h) (x, y)
 both_on j h (e ∷ es) ranges legal x y =
     let more : (h ++ e ∷ []) ++ es ≡ h ++ e ∷ es = append_assoc h (e ∷ []) es in
@@ -246,14 +246,14 @@ elevens (suc n) u = let ih = elevens n u in omega arith
 -- a factory's steps, by its states and the listed runs
 few_steps : (fails : List Fail) (st : List ℕ) (f : ℕ) → length fails ≤ 4096 → tally f st ≤ 11 * tally f (makers_of fails st) + 45066
 few_steps fails st f few =
-    let n = steps_of f st in
+    let n = step_count f st in
     let same = steps_tally f st in
     let runs = runs_made fails f n in
     let lost = listed_few fails f (n / 11) in
     let mine = makers_tally fails f [] st in
     omega arith
 
-steps_few : (j : Job) (h : History) → WithinLimits j → Counted j h → Stocked j.fails (steps h) (taken_states h) → length (steps h) ≤ 904096
+steps_few : (j : BoardJob) (h : History) → WithinLimits j → Counted j h → Stocked j.fails (steps h) (taken_states h) → length (steps h) ≤ 904096
 steps_few j h limits x y =
     let st = steps h in
     let makers = makers_of j.fails (steps h) in
@@ -270,7 +270,7 @@ steps_few j h limits x y =
     let products = limits.few_products in
     omega arith
 
-pub legal_short : (j : Job) (h : History) → WithinLimits j → AreFactories j.grid → Legal j h → length h < 2 ^ 20
+pub legal_short : (j : BoardJob) (h : History) → WithinLimits j → AreFactories j.grid → Legal j h → length h < 2 ^ 20
 legal_short j h limits ranges legal =
     let start : Counted j [] = record { claims = tt; dones = tt; releases = tt; few_taken = omega arith } in
     let begin : Stocked j.fails [] [] = record { stepped = tt; makers = tt; stock = λ f. omega arith; running = λ f r. omega arith } in

@@ -12,8 +12,8 @@ use Rattle.source_model.specs.declared.Static.{Static}
 use Rattle.source_model.specs.Outcomes.{raw_of, x_of, bit_of}
 use Rattle.source_model.specs.SourceRun.{Progress, fresh, turned, axis_in, flips, after, next_of, rest_of, axes_from, axes, progress_after}
 use Rattle.source_model.specs.Statics.{item_of, static_items}
-use Rattle.trace_laws.specs.Steps.{Step, writes}
-use Rattle.trace_laws.specs.Runs.{Trace, axis_of, bit_behind, bit_below, plain, plain_next, source_axis, source_flip, flip_of}
+use Rattle.trace_laws.specs.Steps.{Step, act_writes}
+use Rattle.trace_laws.specs.Runs.{Trace, executed_axis, bit_after_step, bit_below, plain, plain_next, source_axis, source_flip, flip_of}
 use Rattle.trace_laws.specs.Runs as runs
 use Rattle.trace_laws.proofs.Agree.{bits_agree, numbers_agree}
 use Rattle.trace_laws.proofs.Plain.{source_axis_at}
@@ -25,10 +25,10 @@ pub record Tied (steps : List Step) (m : ℕ) (f : Progress) (t : Trace) : Type 
   pub bits : (b : ℕ) → bit_of f.writes b ≡ bit_below steps t.axes m b
 
 -- a new executed axis
-bits_next : (steps : List Step) (m : ℕ) (s : Step) (a : Signed) (done : List (ℕ × Signed)) (b : ℕ) → slice_get steps m ≡ Some s → bit_below steps ((m, a) ∷ done) (suc m) b ≡ (if writes s.act b then effective a (runs.raw_of s.act) else bit_below steps done m b)
+bits_next : (steps : List Step) (m : ℕ) (s : Step) (a : Signed) (done : List (ℕ × Signed)) (b : ℕ) → slice_get steps m ≡ Some s → bit_below steps ((m, a) ∷ done) (suc m) b ≡ (if act_writes s.act b then effective a (runs.raw_of_act s.act) else bit_below steps done m b)
 bits_next steps m s a done b e =
     rw (e, eq-eqb m m refl)
-    (ap (λ x. if writes s.act b then effective a (runs.raw_of s.act) else x) (bits_agree steps ((m, a) ∷ done) done m b (λ q s' l e' w. rw (ne_eqb m q (λ g. absurd (omega arith))) refl)))
+    (ap (λ x. if act_writes s.act b then effective a (runs.raw_of_act s.act) else x) (bits_agree steps ((m, a) ∷ done) done m b (λ q s' l e' w. rw (ne_eqb m q (λ g. absurd (omega arith))) refl)))
 
 abbrev pub step_at : Signed → Kind → Given → Step
 step_at axis k g = record { axis = axis; act = act_of k g }
@@ -45,11 +45,11 @@ tied_next steps m f t axis (kind.Measure bit) g e h = record {
       ∙ sym (bits_next steps m (step_at axis (kind.Measure bit) g) (pull t.turns axis) t.axes b e);
 }
 tied_next steps m f t axis (kind.Settle first size value) g e h =
-    let same : flips f first size value ≡ runs.flips steps t m (act_of (kind.Settle first size value) g) =
+    let same : flips f first size value ≡ runs.flips_in_order steps t m (act_of (kind.Settle first size value) g) =
     ap (λ n. n == value) (numbers_agree (bit_of f.writes) (bit_below steps t.axes m) first size (λ b l k. h.bits b)) in
     rw same (record {
-      turns = added (runs.flips steps t m (act_of (kind.Settle first size value) g));
-      bits = λ b. ap (λ w. bit_of w b) (kept (runs.flips steps t m (act_of (kind.Settle first size value) g))) ∙ h.bits b
+      turns = added (runs.flips_in_order steps t m (act_of (kind.Settle first size value) g));
+      bits = λ b. ap (λ w. bit_of w b) (kept (runs.flips_in_order steps t m (act_of (kind.Settle first size value) g))) ∙ h.bits b
           ∙ sym (bits_next steps m (step_at axis (kind.Settle first size value) g) (pull t.turns axis) t.axes b e);
     })
   where

@@ -6,13 +6,13 @@ use Rattle.magic_pool.specs.declared.Fail.{Fail}
 use Rattle.magic_pool.specs.declared.Stepped.{Stepped}
 use Rattle.magic_pool.specs.declared.StepRefused.{StepRefused}
 use Rattle.magic_pool.specs.declared.StepRefused.TheVariants.{NoFactory, Stocked}
-use Rattle.magic_pool.specs.Recount.{steps_of, ready_of, makers_of}
+use Rattle.magic_pool.specs.Recount.{step_count, ready_of, makers_of}
 use Rattle.magic_pool.specs.Pooled.{HasFewer, store_of, outcome_of, answer_of, step_answer}
 use Rattle.board_core.specs.declared.Entry.TheVariants.{Claim, Deliver, Release, Settle}
 use Rattle.board_core.specs.declared.Entry.TheVariants as entry
 use Rattle.board_core.specs.History.{History, steps, taken_states}
-use Rattle.board_core.specs.Legal.{Job, Allowed}
-use Rattle.board_core.specs.Kept.{Tables, Kept}
+use Rattle.board_core.specs.Legal.{BoardJob, Allowed}
+use Rattle.board_core.specs.inside.Kept.{Tables, Kept}
 use Rattle.board_core.proofs.Short.{legal_short}
 
 steps_few : (h : History) → length (steps h) ≤ length h
@@ -23,7 +23,7 @@ steps_few (Release p ∷ es) = let i = steps_few es in omega arith
 steps_few (entry.Step f ∷ es) = let i = steps_few es in omega arith
 steps_few (Settle p flip ∷ es) = let i = steps_few es in omega arith
 
-pub has_fewer : (j : Job) (h : History) (t : Tables) → Kept j h t → HasFewer t.pool (2 ^ 32 - 1)
+pub has_fewer : (j : BoardJob) (h : History) (t : Tables) → Kept j h t → HasFewer t.pool (2 ^ 32 - 1)
 has_fewer j h t k = (steps h, taken_states h, k.pool, (let few = steps_few h in let s = legal_short j h k.limits k.sound.stores k.legal in omega arith))
 
 -- the three answers of a pool
@@ -84,24 +84,24 @@ module _ (fails : List Fail) (f store before made ready : ℕ) where
           never : Err (Stocked n) ≡ Ok (outcome_of fails f (before + 1) made) → ⊥
           never k = cc
 
-module _ (j : Job) (h : History) (t : Tables) (f : ℕ) (k : Kept j h t) where
-  pub step_allowed : (o : Stepped) → Ok o ≡ step_answer t.pool.makers j.fails (steps h) (taken_states h) f → Allowed j h (entry.Step f) × (o ≡ outcome_of j.fails f (steps_of f (steps h) + 1) (length (makers_of j.fails (steps h))))
+module _ (j : BoardJob) (h : History) (t : Tables) (f : ℕ) (k : Kept j h t) where
+  pub step_allowed : (o : Stepped) → Ok o ≡ step_answer t.pool.makers j.fails (steps h) (taken_states h) f → Allowed j h (entry.Step f) × (o ≡ outcome_of j.fails f (step_count f (steps h) + 1) (length (makers_of j.fails (steps h))))
   step_allowed o e =
-      let a = answer_ok j.fails f (store_of t.pool.makers f) (steps_of f (steps h)) (length (makers_of j.fails (steps h))) (length (ready_of j.fails (steps h) (taken_states h) f)) o e in
+      let a = answer_ok j.fails f (store_of t.pool.makers f) (step_count f (steps h)) (length (makers_of j.fails (steps h))) (length (ready_of j.fails (steps h) (taken_states h) f)) o e in
       ((store_of t.pool.makers f, (k.makers f (store_of t.pool.makers f)).1 (refl, a.0), a.1), a.2)
 
   pub step_nowhere : (why : StepRefused) → why ≡ NoFactory → Err why ≡ step_answer t.pool.makers j.fails (steps h) (taken_states h) f → (c : ℕ) → IsPort j.grid f c → ⊥
   step_nowhere why is e' c port =
       let e = subst (λ (w : StepRefused). Err w ≡ step_answer t.pool.makers j.fails (steps h) (taken_states h) f) is e' in
-      let none = answer_none j.fails f (store_of t.pool.makers f) (steps_of f (steps h)) (length (makers_of j.fails (steps h))) (length (ready_of j.fails (steps h) (taken_states h) f)) e in
+      let none = answer_none j.fails f (store_of t.pool.makers f) (step_count f (steps h)) (length (makers_of j.fails (steps h))) (length (ready_of j.fails (steps h) (taken_states h) f)) e in
       let some = (k.makers f port.1).0 (c, port.0, port.2) in
       let same = some.0 in
       let l = some.1 in
       omega arith
 
   pub step_full : (n : ℕ) (why : StepRefused) → why ≡ Stocked n → Err why ≡ step_answer t.pool.makers j.fails (steps h) (taken_states h) f → n ≡ store_of t.pool.makers f
-      → HasStore j.grid f n × (steps_of f (steps h) % 11 ≡ 0) × (length (ready_of j.fails (steps h) (taken_states h) f) ≡ n)
+      → HasStore j.grid f n × (step_count f (steps h) % 11 ≡ 0) × (length (ready_of j.fails (steps h) (taken_states h) f) ≡ n)
   step_full n why is e' store =
       let e = subst (λ (w : StepRefused). Err w ≡ step_answer t.pool.makers j.fails (steps h) (taken_states h) f) is e' in
-      let a = answer_full j.fails f (store_of t.pool.makers f) (steps_of f (steps h)) (length (makers_of j.fails (steps h))) (length (ready_of j.fails (steps h) (taken_states h) f)) n e in
+      let a = answer_full j.fails f (store_of t.pool.makers f) (step_count f (steps h)) (length (makers_of j.fails (steps h))) (length (ready_of j.fails (steps h) (taken_states h) f)) n e in
       ((k.makers f n).1 (sym store, (let some = a.0 in omega arith)), a.1, a.2)

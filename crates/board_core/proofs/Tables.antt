@@ -65,12 +65,12 @@ pub known_at : (ss : List Static) (h : History) (p : ℕ) (s : Static) → slice
 known_at ss h p s e = known_at_from 0 ss h p s e ∙ ap (λ n. Some (unwrap_or (delivered h n) (zero_of s.kind))) (zero-add p)
 
 -- ---- commuting
-same_reads : (k : Kind) (g : Given) (b : ℕ) → steps.reads (act_of k g) b ≡ statics.reads k b
+same_reads : (k : Kind) (g : Given) (b : ℕ) → steps.act_reads (act_of k g) b ≡ statics.reads k b
 same_reads kind.Rotation g b = refl
 same_reads (kind.Measure bit) g b = refl
 same_reads (kind.Settle first size value) g b = refl
 
-same_reads_from : (k : Kind) (g : Given) (k' : Kind) (g' : Given) → steps.reads_from (act_of k g) (act_of k' g') ≡ statics.reads_from k k'
+same_reads_from : (k : Kind) (g : Given) (k' : Kind) (g' : Given) → steps.act_reads_from (act_of k g) (act_of k' g') ≡ statics.reads_from k k'
 same_reads_from k g kind.Rotation g' = refl
 same_reads_from k g (kind.Measure bit) g' = same_reads k g bit
 same_reads_from k g (kind.Settle first size value) g' = refl

@@ -22,7 +22,7 @@ use Rattle.patch_layout.specs.Grid.{Grid}
 use Rattle.magic_pool.specs.declared.Fail.{Fail}
 use Rattle.board_core.specs.declared.Entry.TheVariants.{Deliver}
 use Rattle.board_core.specs.History.{History, delivered}
-use Rattle.board_core.specs.Legal.{Job, AxisOf, Legal, Complete, CompleteAt, IsKind}
+use Rattle.board_core.specs.Legal.{BoardJob, AxisOf, Legal, Complete, CompleteAt, IsKind}
 use Rattle.board_core.specs.Headline.{job_of, IsOneLegalHistory}
 use Rattle.board_core.specs.Laws.{DeliversBelow, ProductsOfLength, Agrees}
 use Rattle.board_core.proofs.Tables.{entry_of}
@@ -71,7 +71,7 @@ same_outcome h q g x kind.Rotation i c e = same_Some g x (sym c.1 ∙ e)
 same_outcome h q g x (kind.Measure bit) i c e = same_Some g x (sym c.1 ∙ e)
 same_outcome h q g x (kind.Settle first size value) i c e = absurd i
 
-complete_agrees : (j : Job) (table : List Given) (h : History) → length table ≡ length j.products → Legal j h → Complete j h table → Agrees table h
+complete_agrees : (j : BoardJob) (table : List Given) (h : History) → length table ≡ length j.products → Legal j h → Complete j h table → Agrees table h
 complete_agrees j table h l legal complete q x e =
     let at = delivered_at h q x e in
     let a = legal at.0 (Deliver q x) at.1 in

@@ -8,9 +8,9 @@ use Rattle.source_model.specs.Outcomes.{raw_of}
 use Rattle.board_core.specs.declared.Entry.{Entry}
 use Rattle.board_core.specs.declared.Entry.TheVariants.{Deliver}
 use Rattle.board_core.specs.History.{History, delivered, is_done_by, done_place}
-use Rattle.board_core.specs.Legal.{Job}
+use Rattle.board_core.specs.Legal.{BoardJob}
 use Rattle.board_core.specs.View.{claimed_axis}
-use Rattle.board_core.specs.BitsNow.{WritesBit, HasOutcome, LastWritten}
+use Rattle.board_core.specs.inside.BitsNow.{WritesBit, HasOutcome, LastWritten}
 use Rattle.board_core.proofs.Places.{or_else, claimed-append, delivered-append, delivered_done, done_stands, none_of}
 use Rattle.board_core.proofs.Standings.{place_stays, some_push}
 
@@ -19,12 +19,12 @@ outcome_more h e q v o =
     (o.0, o.1, claimed-append h (e ∷ []) q ∙ ap (λ x. or_else x (claimed_axis (e ∷ []) q)) o.2, delivered-append h (e ∷ []) q ∙ ap (λ x. or_else x (delivered (e ∷ []) q)) o.3, o.4)
 
 -- an entry that does no writer of the bit
-pub written_same : (j : Job) (h : History) (e : Entry) (b : ℕ) (by : Option ℕ) (v : Bool) → ((q : ℕ) → WritesBit j b q → is_done_by q e ≡ false) → LastWritten j h b by v → LastWritten j (h ++ e ∷ []) b by v
+pub written_same : (j : BoardJob) (h : History) (e : Entry) (b : ℕ) (by : Option ℕ) (v : Bool) → ((q : ℕ) → WritesBit j b q → is_done_by q e ≡ false) → LastWritten j h b by v → LastWritten j (h ++ e ∷ []) b by v
 written_same j h e b None v other x = (λ q w. place_stays (is_done_by q) h e (other q w) ∙ x.0 q w, x.1)
 written_same j h e b (Some q) v other x =
     (x.0, outcome_more h e q v x.1, λ r w d. x.2 r w (ap is_some (sym (place_stays (is_done_by r) h e (other r w))) ∙ d))
 
-module _ (j : Job) (h : History) (b p : ℕ) (axis : Signed) (g : Given) (writes : WritesBit j b p) (claimed : claimed_axis h p ≡ Some axis) (once : done_place h p ≡ None) where
+module _ (j : BoardJob) (h : History) (b p : ℕ) (axis : Signed) (g : Given) (writes : WritesBit j b p) (claimed : claimed_axis h p ≡ Some axis) (once : done_place h p ≡ None) where
   undelivered : delivered h p ≡ None
   undelivered = none_of (delivered h p) (go (delivered h p) refl)
     where

@@ -13,7 +13,7 @@ use Rattle.patch_layout.specs.declared.plan.Plan.{Plan}
 use Rattle.patch_layout.specs.Certificate.{Checked, Certified, Case}
 use Rattle.patch_layout.specs.Case.{case_of}
 use Rattle.magic_pool.specs.declared.Stepped.{Stepped}
-use Rattle.magic_pool.specs.Recount.{ready_of, steps_of, makers_of}
+use Rattle.magic_pool.specs.Recount.{ready_of, step_count, makers_of}
 use Rattle.magic_pool.specs.Pooled.{outcome_of}
 use Rattle.board_core.specs.declared.board.ClaimWhy.{ClaimWhy}
 use Rattle.board_core.specs.declared.board.ClaimWhy.TheVariants as claim
@@ -154,8 +154,8 @@ ReleaseRefusedBecause (release.Twice place) b p = IsSome (delivered (past b) p) 
 abbrev pub StepRefusedBecause : BoardStepWhy → Position → ℕ → Type 0
 StepRefusedBecause step.NoFactory b f = (c : ℕ) → IsPort b.job.grid f c → ⊥
 StepRefusedBecause (step.Stocked n) b f =
-    HasStore b.job.grid f n × (steps_of f (steps (past b)) % 11 ≡ 0) × (length (ready b f) ≡ n)
+    HasStore b.job.grid f n × (step_count f (steps (past b)) % 11 ≡ 0) × (length (ready b f) ≡ n)
 
 -- what an accepted step does
 abbrev pub stepped_by : Position → ℕ → Stepped
-stepped_by b f = outcome_of b.job.fails f (steps_of f (steps (past b)) + 1) (length (makers_of b.job.fails (steps (past b))))
+stepped_by b f = outcome_of b.job.fails f (step_count f (steps (past b)) + 1) (length (makers_of b.job.fails (steps (past b))))

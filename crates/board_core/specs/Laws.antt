@@ -17,7 +17,7 @@ use Rattle.board_core.specs.declared.Entry.{Entry}
 use Rattle.board_core.specs.declared.Entry.TheVariants.{Deliver}
 use Rattle.board_core.specs.declared.Noted.{Noted}
 use Rattle.board_core.specs.History.{History, entries, delivered, claim_place, done_place, release_place, taken_states}
-use Rattle.board_core.specs.Legal.{Job, AxisOf, FlipOf, Ready, Holds, Allowed, Legal, Complete}
+use Rattle.board_core.specs.Legal.{BoardJob, AxisOf, FlipOf, Ready, Holds, Allowed, Legal, Complete}
 use Rattle.board_core.specs.Orders.{InSourceOrderUpToSwaps, steps_of}
 use Rattle.trace_laws.specs.Runs.{source_axis, source_flip}
 use Rattle.board_core.specs.View.{claimed_axis, turns_of}
@@ -36,13 +36,13 @@ Delivers h q g (kind.Measure bit) = delivered h q ≡ Some g
 Delivers h q g (kind.Settle first size value) = Unit {0}
 
 -- the history delivers the table's outcome for each product below p
-abbrev pub DeliversBelow : Job → History → List Given → ℕ → Type 0
+abbrev pub DeliversBelow : BoardJob → History → List Given → ℕ → Type 0
 DeliversBelow j h table p =
     (q : ℕ) (s : Static) (g : Given) → q < p → slice_get j.products q ≡ Some s → slice_get table q ≡ Some g → Delivers h q g s.kind
 
 -- there, p's axis is the one that the whole table gives it
 abbrev pub AxisIsKnown : Type 0
-AxisIsKnown = (j : Job) (h : History) (table : List Given) (p : ℕ) (axis : Signed) →
+AxisIsKnown = (j : BoardJob) (h : History) (table : List Given) (p : ℕ) (axis : Signed) →
     length table ≡ length j.products → DeliversBelow j h table p →
     slice_get (axes (static_items j.products) table) p ≡ Some axis → AxisOf j h p axis
 
@@ -54,26 +54,26 @@ OwnAxisIsKnown = (n : ℕ) (items : List Item) (grid : Grid) (fails : List Fail)
 
 -- nor does a flip depend on outcomes of later products
 abbrev pub FlipIsKnown : Type 0
-FlipIsKnown = (j : Job) (h : History) (table : List Given) (p : ℕ) (s : Static) (first size value : ℕ) (flip : Bool) →
+FlipIsKnown = (j : BoardJob) (h : History) (table : List Given) (p : ℕ) (s : Static) (first size value : ℕ) (flip : Bool) →
     length table ≡ length j.products → DeliversBelow j h table p →
     slice_get j.products p ≡ Some s → s.kind ≡ kind.Settle first size value →
     flips (progress_after fresh (static_items (take p j.products)) table) first size value ≡ flip → FlipOf j h p flip
 
 -- nothing happened yet
 abbrev pub EmptyIsLegal : Type 0
-EmptyIsLegal = (j : Job) → Legal j []
+EmptyIsLegal = (j : BoardJob) → Legal j []
 
 -- one more entry that is allowed
 abbrev pub AllowedGoesOn : Type 0
-AllowedGoesOn = (j : Job) (h : History) (e : Entry) → Legal j h → Allowed j h e → Legal j (h ++ e ∷ [])
+AllowedGoesOn = (j : BoardJob) (h : History) (e : Entry) → Legal j h → Allowed j h e → Legal j (h ++ e ∷ [])
 
 -- and each entry of a legal history is allowed after a legal history
 abbrev pub LegalGoesBack : Type 0
-LegalGoesBack = (j : Job) (h : History) (e : Entry) → Legal j (h ++ e ∷ []) → Legal j h × Allowed j h e
+LegalGoesBack = (j : BoardJob) (h : History) (e : Entry) → Legal j (h ++ e ∷ []) → Legal j h × Allowed j h e
 
 -- the front of a legal history is legal
 abbrev pub FrontIsLegal : Type 0
-FrontIsLegal = (j : Job) (h : History) (n : ℕ) → Legal j h → Legal j (take n h)
+FrontIsLegal = (j : BoardJob) (h : History) (n : ℕ) → Legal j h → Legal j (take n h)
 
 -- ---- what stands in a history
 -- one more entry, whoever made it
@@ -103,7 +103,7 @@ UndoneIsUndelivered = (h : History) (p : ℕ) → done_place h p ≡ None → de
 
 -- what is released was claimed
 abbrev pub ReleasedIsClaimed : Type 0
-ReleasedIsClaimed = (j : Job) (h : History) (p : ℕ) → Legal j h → IsSome (release_place h p) → IsSome (claim_place h p)
+ReleasedIsClaimed = (j : BoardJob) (h : History) (p : ℕ) → Legal j h → IsSome (release_place h p) → IsSome (claim_place h p)
 
 -- a table of the right kinds has one outcome for each static product
 abbrev pub TablesFit : Type 0
@@ -119,7 +119,7 @@ Agrees table h = (q : ℕ) (g : Given) → delivered h q ≡ Some g → slice_ge
 
 -- each claim has the axis and sign of the source run, by every table that agrees with the deliveries
 abbrev pub ClaimsHaveSourceAxes : Type 0
-ClaimsHaveSourceAxes = (n : ℕ) (j : Job) (table : List Given) (h : History) (p : ℕ) (axis : Signed) →
+ClaimsHaveSourceAxes = (n : ℕ) (j : BoardJob) (table : List Given) (h : History) (p : ℕ) (axis : Signed) →
     ProductsOfLength n j.products → length table ≡ length j.products → Legal j h → Agrees table h → claimed_axis h p ≡ Some axis →
     slice_get (axes (static_items j.products) table) p ≡ Some axis
 
@@ -137,25 +137,25 @@ FlipsAreSourceFlips = (products : List Static) (table : List Given) (p : ℕ) (s
 
 -- products are done in source order up to swaps of commuting neighbours
 abbrev pub OrderIsSourceOrderUpToSwaps : Type 0
-OrderIsSourceOrderUpToSwaps = (n : ℕ) (j : Job) (table : List Given) (h : History) →
+OrderIsSourceOrderUpToSwaps = (n : ℕ) (j : BoardJob) (table : List Given) (h : History) →
     ProductsOfLength n j.products → length table ≡ length j.products → Legal j h → Agrees table h →
     InSourceOrderUpToSwaps j.products table h
 
 -- from its claim to its delivery a product's axis stays, whatever is delivered or settled between
 abbrev pub ClaimedAxisStays : Type 0
-ClaimedAxisStays = (n : ℕ) (j : Job) (h : History) (p : ℕ) (axis : Signed) (s : Static) →
+ClaimedAxisStays = (n : ℕ) (j : BoardJob) (h : History) (p : ℕ) (axis : Signed) (s : Static) →
     ProductsOfLength n j.products → Legal j h → slice_get j.products p ≡ Some s → claimed_axis h p ≡ Some axis → done_place h p ≡ None →
     carry (turns_of j.products h) s.axis ≡ axis
 
 -- the axis kept by corrections about executed axes, in any order, is that of the source run, for a product that isn't done and waits on none
 abbrev pub FrameIsSource : Type 0
-FrameIsSource = (n : ℕ) (j : Job) (h : History) (p : ℕ) (s : Static) →
+FrameIsSource = (n : ℕ) (j : BoardJob) (h : History) (p : ℕ) (s : Static) →
     ProductsOfLength n j.products → Legal j h → slice_get j.products p ≡ Some s → done_place h p ≡ None → Ready j h p →
     AxisOf j h p (carry (turns_of j.products h) s.axis)
 
 -- a product that doesn't commute with an earlier k is neither claimed nor settled before what k waits for is done, even if it commutes with that
 abbrev pub ThirdHoldsBack : Type 0
-ThirdHoldsBack = (n : ℕ) (j : Job) (h : History) (i k p : ℕ) (s t u : Static) →
+ThirdHoldsBack = (n : ℕ) (j : BoardJob) (h : History) (i k p : ℕ) (s t u : Static) →
     ProductsOfLength n j.products → Legal j h → i < k → k < p →
     slice_get j.products i ≡ Some s → slice_get j.products k ≡ Some t → slice_get j.products p ≡ Some u →
     commuting s t ≡ false → commuting t u ≡ false → IsSome (claim_place h p) ⊎ IsSome (done_place h p) →
@@ -163,8 +163,8 @@ ThirdHoldsBack = (n : ℕ) (j : Job) (h : History) (i k p : ℕ) (s t u : Static
 
 -- a cell has one holder
 abbrev pub RegionsAreApart : Type 0
-RegionsAreApart = (j : Job) (h : History) (p q c : ℕ) → Legal j h → Holds j.grid h p c → Holds j.grid h q c → p ≡ q
+RegionsAreApart = (j : BoardJob) (h : History) (p q c : ℕ) → Legal j h → Holds j.grid h p c → Holds j.grid h q c → p ≡ q
 
 -- no two claims have one state
 abbrev pub StatesServeOnce : Type 0
-StatesServeOnce = (j : Job) (h : History) → Legal j h → AllPairs (λ s t. s ≢ t) (taken_states h)
+StatesServeOnce = (j : BoardJob) (h : History) → Legal j h → AllPairs (λ s t. s ≢ t) (taken_states h)

@@ -16,29 +16,29 @@ use Rattle.patch_layout.specs.declared.layout.Site.TheVariants as site
 use Rattle.patch_layout.specs.Region.{Fit}
 use Rattle.patch_layout.specs.Case.{Ascending}
 use Rattle.magic_pool.specs.declared.Fail.{Fail}
-use Rattle.magic_pool.specs.Recount.{ready_of, steps_of, first_of_list}
+use Rattle.magic_pool.specs.Recount.{ready_of, step_count, first_of_list}
 use Rattle.board_core.specs.declared.Entry.{Entry}
 use Rattle.board_core.specs.declared.Entry.TheVariants.{Claim, Deliver, Release, Step, Settle}
 use Rattle.board_core.specs.History.{History, delivered, claim_place, done_place, release_place, steps, taken_states, known}
 
 -- what a history is legal for: static products, a layout, and failing runs
-pub record Job : Type 0 where
+pub record BoardJob : Type 0 where
   pub products : List Static
   pub grid : Grid
   pub fails : List Fail
 
 -- the axis that the source order gives p, with the outcomes known in h and 0 for the others
-abbrev pub AxisOf : Job → History → ℕ → Signed → Type 0
+abbrev pub AxisOf : BoardJob → History → ℕ → Signed → Type 0
 AxisOf j h p axis = slice_get (axes (static_items j.products) (known j.products h)) p ≡ Some axis
 
 -- whether p flips where its circuit is run with the outcomes known in h
-abbrev pub FlipOf : Job → History → ℕ → Bool → Type 0
+abbrev pub FlipOf : BoardJob → History → ℕ → Bool → Type 0
 FlipOf j h p flip =
     (s : Static) × (first : ℕ) × (size : ℕ) × (value : ℕ) × (slice_get j.products p ≡ Some s) × (s.kind ≡ kind.Settle first size value)
     × (flips (progress_after fresh (static_items (take p j.products)) (known j.products h)) first size value ≡ flip)
 
 -- each earlier product that doesn't commute with p is done
-abbrev pub Ready : Job → History → ℕ → Type 0
+abbrev pub Ready : BoardJob → History → ℕ → Type 0
 Ready j h p =
     (q : ℕ) (s t : Static) → q < p → slice_get j.products q ≡ Some s → slice_get j.products p ≡ Some t → commuting s t ≡ false → IsSome (done_place h q)
 
@@ -61,14 +61,14 @@ IsKind (kind.Measure bit) (given.Measure raw) = Unit {0}
 IsKind _ _ = ⊥
 
 -- a claim's port and state: for a rotation the least ready state of the port, for a measurement none
-abbrev pub TakesState : Job → History → Kind → Option ℕ → Option ℕ → Type 0
+abbrev pub TakesState : BoardJob → History → Kind → Option ℕ → Option ℕ → Type 0
 TakesState j h kind.Rotation through state =
     (f : ℕ) × (s : ℕ) × (through ≡ Some f) × (state ≡ Some s) × (first_of_list (ready_of j.fails (steps h) (taken_states h) f) ≡ Some s)
 TakesState j h (kind.Measure bit) through state = (through ≡ None) × (state ≡ None)
 TakesState j h (kind.Settle first size value) through state = ⊥
 
 -- what a claim asks of the history before it
-pub record ClaimAllowed (j : Job) (h : History) (p : ℕ) (axis : Signed) (through state : Option ℕ) (cells : List ℕ) : Type 0 where
+pub record ClaimAllowed (j : BoardJob) (h : History) (p : ℕ) (axis : Signed) (through state : Option ℕ) (cells : List ℕ) : Type 0 where
   pub product : (s : Static) × (slice_get j.products p ≡ Some s) × TakesState j h s.kind through state
   pub unclaimed : claim_place h p ≡ None
   pub ready : Ready j h p
@@ -78,18 +78,18 @@ pub record ClaimAllowed (j : Job) (h : History) (p : ℕ) (axis : Signed) (throu
   pub free : (c q : ℕ) → ClaimCell j.grid axis through cells c → Holds j.grid h q c → ⊥
 
 -- what each kind of entry asks of the history before it
-abbrev pub Allowed : Job → History → Entry → Type 0
+abbrev pub Allowed : BoardJob → History → Entry → Type 0
 Allowed j h (Claim p axis through state cells) = ClaimAllowed j h p axis through state cells
 Allowed j h (Deliver p g) =
     IsSome (claim_place h p) × (done_place h p ≡ None) × ((s : Static) × (slice_get j.products p ≡ Some s) × IsKind s.kind g)
 Allowed j h (Release p) = IsSome (delivered h p) × (release_place h p ≡ None)
 Allowed j h (Step f) =
     (store : ℕ) × HasStore j.grid f store
-    × ((steps_of f (steps h) % 11 ≢ 0) ⊎ (length (ready_of j.fails (steps h) (taken_states h) f) < store))
+    × ((step_count f (steps h) % 11 ≢ 0) ⊎ (length (ready_of j.fails (steps h) (taken_states h) f) < store))
 Allowed j h (Settle p flip) = (done_place h p ≡ None) × Ready j h p × FlipOf j h p flip
 
 -- each entry is allowed after the entries before it
-abbrev pub Legal : Job → History → Type 0
+abbrev pub Legal : BoardJob → History → Type 0
 Legal j h = (n : ℕ) (e : Entry) → slice_get h n ≡ Some e → Allowed j (take n h) e
 
 -- every rotation and measurement has a claim, a delivery with the table's outcome and a release, and every settled product is settled
@@ -98,6 +98,6 @@ CompleteAt h p g kind.Rotation = IsSome (claim_place h p) × (delivered h p ≡ 
 CompleteAt h p g (kind.Measure bit) = IsSome (claim_place h p) × (delivered h p ≡ Some g) × IsSome (release_place h p)
 CompleteAt h p g (kind.Settle first size value) = IsSome (done_place h p)
 
-abbrev pub Complete : Job → History → List Given → Type 0
+abbrev pub Complete : BoardJob → History → List Given → Type 0
 Complete j h table =
     (p : ℕ) (s : Static) (g : Given) → slice_get j.products p ≡ Some s → slice_get table p ≡ Some g → CompleteAt h p g s.kind

@@ -8,12 +8,8 @@ pub mod Limits
 pub mod Suits
 pub mod Position
 pub mod Causes
-pub mod BitsNow
-pub mod Cells
-pub mod Bits
 pub mod Books
 pub mod Uses
-pub mod Kept
-pub mod Judging
 pub mod Shows
 pub mod BoardLaws
+pub mod inside

@@ -2,11 +2,11 @@
 use Rattle.std.specs.Prelude.{ℕ, ◌<◌, ◌≤◌, ◌^◌, length}
 use Rattle.patch_layout.specs.Grid.{Grid, HasStore}
 use Rattle.board_core.specs.History.{History}
-use Rattle.board_core.specs.Legal.{Job, Legal}
+use Rattle.board_core.specs.Legal.{BoardJob, Legal}
 use Rattle.board_core.specs.Laws.{ProductsOfLength}
 
 -- within the limits: 1,024 qubits, 16,384 products, 4,096 failing runs
-pub record WithinLimits (j : Job) : Type 0 where
+pub record WithinLimits (j : BoardJob) : Type 0 where
   pub qubits : ℕ
   pub few_qubits : qubits ≤ 1024
   pub axes_fit : ProductsOfLength qubits j.products
@@ -19,4 +19,4 @@ AreFactories g = (f store : ℕ) → HasStore g f store → (f < 16) × (0 < sto
 
 -- a legal history has fewer than 2^20 entries
 abbrev pub LegalIsShort : Type 0
-LegalIsShort = (j : Job) (h : History) → WithinLimits j → AreFactories j.grid → Legal j h → length h < 2 ^ 20
+LegalIsShort = (j : BoardJob) (h : History) → WithinLimits j → AreFactories j.grid → Legal j h → length h < 2 ^ 20

@@ -6,16 +6,16 @@ use Rattle.magic_pool.specs.Pooled.{Pooled}
 use Rattle.board_core.specs.declared.Noted.{Noted}
 use Rattle.board_core.specs.declared.Entry.{Entry}
 use Rattle.board_core.specs.History.{History, entries}
-use Rattle.board_core.specs.Legal.{Job, Legal}
+use Rattle.board_core.specs.Legal.{BoardJob, Legal}
 use Rattle.board_core.specs.Limits.{WithinLimits, AreFactories}
 use Rattle.board_core.specs.Suits.{IsOpenFor, HaveLetters}
 
 -- the job of these products and this layout, with the pool's failing runs
-abbrev pub job_with : List Static → Grid → Pooled → Job
+abbrev pub job_with : List Static → Grid → Pooled → BoardJob
 job_with products grid pool = record { products = products; grid = grid; fails = pool.fails }
 
 pub record Position : Type 0 where
-  pub job : Job
+  pub job : BoardJob
   pub history : List Noted
 
 -- the board with another history

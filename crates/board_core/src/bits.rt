@@ -2,8 +2,8 @@
 
 ghost use Rattle.std.specs.Prelude.{◌≡◌, ◌+◌, ◌<◌, ◌≤◌, ◌==◌, length, slice_get, slice_set, Some, None, false};
 ghost use Rattle.pauli_product.specs.Bits.{number_of};
-ghost use Rattle.board_core.specs.Bits.{after_write, value_in};
-ghost use Rattle.board_core.specs.Books.{BitsReach, NamesBelow};
+ghost use Rattle.board_core.specs.inside.Bits.{after_write, value_in};
+ghost use Rattle.board_core.specs.inside.Books.{BitsReach, NamesBelow};
 ghost use Rattle.board_core.specs.declared.bits.Written.{Written as WrittenBit};
 
 use source_model::{Kind, Static};

@@ -5,7 +5,7 @@ ghost use Rattle.pauli_product.specs.declared.Letter.{Letter as Letters};
 ghost use Rattle.pauli_product.specs.declared.Letter.TheVariants.{I};
 ghost use Rattle.patch_layout.specs.Grid.{IsPatch, IsPort};
 ghost use Rattle.board_core.specs.Legal.{ClaimCell};
-ghost use Rattle.board_core.specs.Cells.{LeastOfRegion, LeastTaken, LeastWithPatches, PatchesTaken, RegionTaken, Taken, better_of, given_to};
+ghost use Rattle.board_core.specs.inside.Cells.{LeastOfRegion, LeastTaken, LeastWithPatches, PatchesTaken, RegionTaken, Taken, better_of, given_to};
 
 use crate::holders::Holders;
 use patch_layout::Layout;

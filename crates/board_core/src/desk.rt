@@ -56,7 +56,7 @@ impl Model for Board {
     ghost Value = { Position };
 
     ghost use Rattle.board_core.specs.History.{entries};
-    ghost use Rattle.board_core.specs.Kept.{Kept};
+    ghost use Rattle.board_core.specs.inside.Kept.{Kept};
 
     ghost view = { λ b.
         record { job = job_with b.products.items b.layout b.ledger.pool; history = b.history } };

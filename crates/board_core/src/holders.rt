@@ -1,7 +1,7 @@
 //! Who holds each cell.
 
 ghost use Rattle.std.specs.Prelude.{◌≡◌, ℕ, ◌<◌, ◌≤◌, length, replicate, slice_get, slice_set, Some, None, IfOk};
-ghost use Rattle.board_core.specs.Cells.{FreedAt, HoldsBetween, LiesIn, without};
+ghost use Rattle.board_core.specs.inside.Cells.{FreedAt, HoldsBetween, LiesIn, without};
 
 use patch_base::Memory;
 use std::alloc::Global;
@@ -48,7 +48,7 @@ impl Model for Holders {
 
     ghost Value = { List (Option ℕ) };
 
-    ghost use Rattle.board_core.specs.Cells.{Spanned};
+    ghost use Rattle.board_core.specs.inside.Cells.{Spanned};
 
     ghost view = { λ h. h.cells.items };
 

@@ -1,7 +1,7 @@
 //! Which cause comes first.
 
 ghost use Rattle.std.specs.Prelude.{◌≡◌, ◌↔◌, IsTrue};
-ghost use Rattle.board_core.specs.Judging.{if_undone, why_not_delivered, why_not_released};
+ghost use Rattle.board_core.specs.inside.Judging.{if_undone, why_not_delivered, why_not_released};
 ghost use Rattle.board_core.specs.Books.{TakesRegion};
 ghost use Rattle.board_core.specs.Causes.{is_rotation};
 

@@ -13,16 +13,17 @@ ghost use Rattle.magic_pool.specs.Pooled.{HasFewer, Recounts, step_answer, store
 ghost use Rattle.magic_pool.specs.declared.StepRefused.TheVariants.{Stocked};
 ghost use Rattle.board_core.specs.declared.Entry.TheVariants as entry;
 ghost use Rattle.board_core.specs.History.{History, steps, taken_states};
-ghost use Rattle.board_core.specs.Legal.{Allowed, ClaimCell, Job};
+ghost use Rattle.board_core.specs.Legal.{Allowed, ClaimCell, BoardJob};
 ghost use Rattle.board_core.specs.View.{turns_of, LeastWait};
 ghost use Rattle.board_core.specs.Limits.{WithinLimits};
 ghost use Rattle.board_core.specs.Suits.{HaveLetters, IsOpenFor};
-ghost use Rattle.board_core.specs.Bits.{value_in};
-ghost use Rattle.board_core.specs.Books.{HasMakersOf, CanDeliver, NamesBelow, next_state};
-ghost use Rattle.board_core.specs.Cells.{LeastTaken};
+ghost use Rattle.board_core.specs.inside.Bits.{value_in};
+ghost use Rattle.board_core.specs.Books.{HasMakersOf};
+ghost use Rattle.board_core.specs.inside.Books.{CanDeliver, NamesBelow, next_state};
+ghost use Rattle.board_core.specs.inside.Cells.{LeastTaken};
 ghost use Rattle.board_core.specs.Causes.{DiffersAt, EntryOf};
 ghost use Rattle.board_core.specs.Uses.{IsOrderOf};
-ghost use Rattle.board_core.specs.Kept.{HasProduct, Kept};
+ghost use Rattle.board_core.specs.inside.Kept.{HasProduct, Kept};
 ghost use Rattle.board_core.specs.Position.{job_with};
 ghost use Rattle.board_core.specs.declared.board.Standing.{Standing as Standings};
 ghost use Rattle.std.specs.Option.{option_to_list};
@@ -60,7 +61,7 @@ pub struct Ledger {
 }
 
 impl Model for Ledger {
-    ghost use Rattle.board_core.specs.Kept.{Tables};
+    ghost use Rattle.board_core.specs.inside.Kept.{Tables};
 
     ghost Value = { Tables };
 
@@ -119,7 +120,7 @@ impl Ledger {
     /// The least earlier product that doesn't commute with this one and isn't done.
     pub fn waits_on(&self, p: u32) -> Option<u32>
         requires { HasProduct self.now p }
-        ensures { (j : Job) (h : History) → Kept j h self.now → p < length j.products
+        ensures { (j : BoardJob) (h : History) → Kept j h self.now → p < length j.products
             → LeastWait j.products h p result }
     {
         self.order.waits_on(p, &self.done)
@@ -141,7 +142,7 @@ impl Ledger {
 
     /// How many states of a factory are ready.
     pub fn ready(&self, f: u32) -> u32
-        ensures { (j : Job) (h : History) → Kept j h self.now
+        ensures { (j : BoardJob) (h : History) → Kept j h self.now
             → result ≡ length (ready_of j.fails (steps h) (taken_states h) f) }
     {
         self.pool.ready(f)
@@ -151,7 +152,7 @@ impl Ledger {
     pub fn show_axis(&self, own: &Product, into: &mut Product)
         requires own { OfLength (qubits self.now.frame) own.now }
         requires room { OfLength (qubits self.now.frame) into.old }
-        ensures axis { (j : Job) (h : History) → Kept j h self.now
+        ensures axis { (j : BoardJob) (h : History) → Kept j h self.now
             → into.new ≡ carry (turns_of j.products h) own.now }
         ensures long { length into.new.letters ≡ length into.old.letters }
     {
@@ -161,7 +162,7 @@ impl Ledger {
     /// Leaves each factory's count of ready states.
     pub fn show_ready(&self, counts: &mut [u32])
         requires { length counts.old ≡ 16 }
-        ensures counts { (j : Job) (h : History) → Kept j h self.now → (f : ℕ) → f < 16
+        ensures counts { (j : BoardJob) (h : History) → Kept j h self.now → (f : ℕ) → f < 16
             → slice_get counts.new f ≡ Some (length
             (ready_of j.fails (steps h) (taken_states h) f)) }
     {
@@ -174,10 +175,10 @@ impl Ledger {
     pub fn difference(&mut self, own: &Product, axis: &Product) -> Option<Differ>
         requires own { OfLength (qubits self.old.frame) own.now }
         requires room { OfLength (qubits self.old.frame) self.old.scratch }
-        ensures first { (j : Job) (h : History) → Kept j h self.old
+        ensures first { (j : BoardJob) (h : History) → Kept j h self.old
             → MatchOption result (carry (turns_of j.products h) own.now ≡ axis.now)
             (DiffersAt (carry (turns_of j.products h) own.now) axis.now) }
-        ensures kept { (j : Job) (h : History) → Kept j h self.old → Kept j h self.new }
+        ensures kept { (j : BoardJob) (h : History) → Kept j h self.old → Kept j h self.new }
     {
         self.frame.image(own, &mut self.scratch);
         first_difference(&self.scratch, axis)
@@ -222,9 +223,9 @@ impl Ledger {
         requires few { length cells.now ≤ 4096 }
         requires cells { All (λ c. c < length layout.now.sites) cells.now }
         requires p { p < length self.old.standings }
-        ensures state { (j : Job) (h : History) → Kept j h self.old
+        ensures state { (j : BoardJob) (h : History) → Kept j h self.old
             → result ≡ next_state j.fails (steps h) (taken_states h) port }
-        ensures kept { (j : Job) (h : History) → Kept j h self.old → j.grid ≡ layout.now
+        ensures kept { (j : BoardJob) (h : History) → Kept j h self.old → j.grid ≡ layout.now
             → Allowed j h (entry.Claim p axis.now port result cells.now) → place ≡ length h
             → Kept j (h ++ entry.Claim p axis.now port result cells.now ∷ []) self.new }
     {
@@ -237,7 +238,7 @@ impl Ledger {
     pub fn rotate(&mut self, own: &Product, raw: bool, x: bool, p: u32, place: u32)
         requires own { OfLength (qubits self.old.frame) own.now }
         requires covers { HasProduct self.old p }
-        ensures { (j : Job) (h : History) (s : Statics) → Kept j h self.old
+        ensures { (j : BoardJob) (h : History) (s : Statics) → Kept j h self.old
             → slice_get j.products p ≡ Some s → s.axis ≡ own.now
             → Allowed j h (entry.Deliver p (given.Rotation raw x)) → place ≡ length h
             → Kept j (h ++ entry.Deliver p (given.Rotation raw x) ∷ []) self.new }
@@ -252,7 +253,7 @@ impl Ledger {
         requires own { OfLength (qubits self.old.frame) own.now }
         requires covers { HasProduct self.old p }
         requires bit { bit < length self.old.bits }
-        ensures { (j : Job) (h : History) (s : Statics) → Kept j h self.old
+        ensures { (j : BoardJob) (h : History) (s : Statics) → Kept j h self.old
             → slice_get j.products p ≡ Some s → s.axis ≡ own.now → s.kind ≡ Measure bit
             → Allowed j h (entry.Deliver p (given.Measure raw)) → place ≡ length h
             → Kept j (h ++ entry.Deliver p (given.Measure raw) ∷ []) self.new }
@@ -266,7 +267,7 @@ impl Ledger {
     pub fn settle(&mut self, own: &Product, flip: bool, p: u32, place: u32)
         requires own { OfLength (qubits self.old.frame) own.now }
         requires covers { HasProduct self.old p }
-        ensures { (j : Job) (h : History) (s : Statics) → Kept j h self.old
+        ensures { (j : BoardJob) (h : History) (s : Statics) → Kept j h self.old
             → slice_get j.products p ≡ Some s → s.axis ≡ own.now → Allowed j h (entry.Settle p flip)
             → place ≡ length h → Kept j (h ++ entry.Settle p flip ∷ []) self.new }
     {
@@ -277,7 +278,7 @@ impl Ledger {
     /// Notes a release.
     pub fn release(&mut self, p: u32, place: u32)
         requires { p < length self.old.standings }
-        ensures { (j : Job) (h : History) → Kept j h self.old → Allowed j h (entry.Release p)
+        ensures { (j : BoardJob) (h : History) → Kept j h self.old → Allowed j h (entry.Release p)
             → place ≡ length h → Kept j (h ++ entry.Release p ∷ []) self.new }
     {
         self.holders.free(p);
@@ -287,10 +288,10 @@ impl Ledger {
     /// Makes a step of a factory.
     pub fn step(&mut self, f: u32) -> Result<Stepped, StepRefused>
         requires { HasFewer self.old.pool (2 ^ 32 - 1) }
-        ensures answer { (j : Job) (h : History) → Kept j h self.old
+        ensures answer { (j : BoardJob) (h : History) → Kept j h self.old
             → result ≡ step_answer self.old.pool.makers j.fails (steps h) (taken_states h) f }
         ensures stocked { (n : ℕ) → result ≡ Err (Stocked n) → n ≡ store_of self.old.pool.makers f }
-        ensures kept { OnOk result ((j : Job) (h : History) → Kept j h self.old
+        ensures kept { OnOk result ((j : BoardJob) (h : History) → Kept j h self.old
             → Allowed j h (entry.Step f) → Kept j (h ++ entry.Step f ∷ []) self.new) }
         ensures refused { OnErr result (self.new ≡ self.old) }
     {
@@ -354,7 +355,8 @@ pub fn note_outcome(
     requires own { OfLength (qubits ledger.old.frame) product.now.axis }
     requires covers { HasProduct ledger.old p }
     requires bits { NamesBelow (length ledger.old.bits) product.now.kind }
-    ensures { (j : Job) (h : History) → Kept j h ledger.old → CanDeliver j h p product.now given
+    ensures { (j : BoardJob) (h : History) → Kept j h ledger.old
+        → CanDeliver j h p product.now given
         → place ≡ length h → EntryOf p given result × Allowed j h result
         × Kept j (h ++ result ∷ []) ledger.new }
 {

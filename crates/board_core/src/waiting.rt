@@ -2,7 +2,7 @@
 
 ghost use Rattle.std.specs.Prelude.{◌≡◌, ℕ, ◌≤◌, length, IfOk};
 ghost use Rattle.board_core.specs.Laws.{ProductsOfLength};
-ghost use Rattle.board_core.specs.Uses.{IsOrderOf, uses_of};
+ghost use Rattle.board_core.specs.Uses.{IsOrderOf, bits_used_by};
 
 use commute_order::{Order, Uses};
 use patch_base::Memory;
@@ -11,7 +11,7 @@ use std::alloc::Global;
 
 /// The bits that a product reads and writes.
 fn uses_of(kind: Kind) -> Uses
-    ensures { result ≡ uses_of kind }
+    ensures { result ≡ bits_used_by kind }
 {
     match kind {
         Kind::Rotation => Uses {

@@ -10,7 +10,7 @@ use Rattle.pauli_product.specs.Signed.{Signed, OfLength, IsNotIdentity}
 use Rattle.source_model.specs.declared.Static.{Static}
 use Rattle.source_model.specs.Used.{acts, acts_at, takes_region, is_used}
 use Rattle.patch_layout.specs.Grid.{Grid, Open}
-use Rattle.patch_layout.specs.Row.{wanted, IsUsed}
+use Rattle.patch_layout.specs.Row.{demand, IsUsed}
 use Rattle.magic_pool.specs.declared.Fail.{Fail}
 use Rattle.magic_pool.specs.Pooled.{Pooled}
 use Rattle.board_core.specs.Laws.{ProductsOfLength}
@@ -49,9 +49,9 @@ two_used (suc (suc q)) l = absurd (omega arith)
 pub long : (products : List Static) → All IsOnTwo products → ProductsOfLength 2 products
 long products each = λ k d l. (each k d l).0
 
-pub open_for : (g : Grid) (products : List Static) → Open g (wanted (true ∷ true ∷ []) true) → All IsOnTwo products → IsOpenFor g products
+pub open_for : (g : Grid) (products : List Static) → Open g (demand (true ∷ true ∷ []) true) → All IsOnTwo products → IsOpenFor g products
 open_for g products is_open each = (
-  wanted (true ∷ true ∷ []) true,
+  demand (true ∷ true ∷ []) true,
   record { used = λ q u. two_used q (used_within 2 products q (long products each) u); rotations = λ p s e r. refl },
   is_open,
 )

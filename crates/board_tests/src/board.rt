@@ -4,7 +4,7 @@
 ghost use Rattle.std.specs.Prelude.{◌≡◌, ◌≤◌, IsTrue, IfOk, All, length, true, [], ◌∷◌};
 ghost use Rattle.pauli_product.specs.Signed.{IsNotIdentity};
 ghost use Rattle.patch_layout.specs.Grid.{Open};
-ghost use Rattle.patch_layout.specs.Row.{wanted};
+ghost use Rattle.patch_layout.specs.Row.{demand};
 ghost use Rattle.board_tests.specs.Rows.{IsOnTwo};
 
 use board_core::{Board, order_of, pool_of};
@@ -59,7 +59,7 @@ fn products(alloc: Global, rows: &[Row]) -> Result<Vec<Static>, Memory>
 }
 
 fn row(alloc: Global) -> Result<Layout, Memory>
-    ensures { IfOk result (λ layout. Open layout (wanted (true ∷ true ∷ []) true)) }
+    ensures { IfOk result (λ layout. Open layout (demand (true ∷ true ∷ []) true)) }
 {
     let need = Need {
         qubits: 2,

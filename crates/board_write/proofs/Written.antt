@@ -8,7 +8,7 @@ use Rattle.patch_layout.specs.Grid.{Grid, Sound}
 use Rattle.magic_pool.specs.declared.Fail.{Fail}
 use Rattle.board_core.specs.Headline.{job_of}
 use Rattle.board_core.specs.Laws.{LegalAndCompleteIsTheHeadline}
-use Rattle.board_core.specs.Legal.{Job, Legal, Complete}
+use Rattle.board_core.specs.Legal.{BoardJob, Legal, Complete}
 use Rattle.board_core.specs.Limits.{WithinLimits}
 use Rattle.board_core.specs.Position.{Position, past, IsLegal}
 use Rattle.board_core.specs.Suits.{HaveLetters}
@@ -23,10 +23,10 @@ use Rattle.board_write.specs.Boards.{IsComplete, WritesText, schedule_of}
 pub complete_board : LegalAndCompleteIsTheHeadline → LegalEntriesStand → (c : Circuit) (grid : Grid) (fails : List Fail) (table : List Given) (b : Position) → WellFormed c → Sound grid → b.job ≡ job_of c.items grid fails → IsLegal b → All HasNumber b.history → IsComplete c b table → (s : IsSchedule c.items c.registers grid fails table (schedule_of c table b.history)) × (s.history ≡ b.history)
 complete_board headline stand c grid fails table b formed sound is legal numbers complete =
     let j = job_of c.items grid fails in
-    let is_legal : Legal j (past b) = subst (λ (k : Job). Legal k (past b)) is legal.legal in
+    let is_legal : Legal j (past b) = subst (λ (k : BoardJob). Legal k (past b)) is legal.legal in
     let limits : WithinLimits j = subst WithinLimits is legal.limits in
-    let letters : HaveLetters j.products = subst (λ (k : Job). HaveLetters k.products) is legal.letters in
-    let done : Complete j (past b) table = subst (λ (k : Job). Complete k (past b) table) is complete.complete in (
+    let letters : HaveLetters j.products = subst (λ (k : BoardJob). HaveLetters k.products) is legal.letters in
+    let done : Complete j (past b) table = subst (λ (k : BoardJob). Complete k (past b) table) is complete.complete in (
       record {
         history = b.history;
         stands = stand j b.history limits sound letters is_legal numbers;

@@ -11,16 +11,16 @@ use mir.Syntax.{w64}
 use Rattle.std.proofs.lemmas.Nat.Bits.{bit_at-zero, bit_at-lt, bit_at_and, bit_at_xor, bit_at_not, bit_at-trailing_zeros, bit_at_set_same, bit_at_set_other, shr_and_one}
 use Rattle.std.proofs.lemmas.Bool.Decides.{nat_tests}
 use Rattle.pauli_product.specs.Corrections.{xor}
-use Rattle.commute_order.specs.Words.{bit_of, bits_from, IsOpen}
+use Rattle.commute_order.specs.inside.Words.{bit_in_words, bits_from, IsOpen}
 
 pub length_bits : (words : List ℕ) (i n : ℕ) → length (bits_from words i n) ≡ n
 length_bits words i zero = refl
 length_bits words i (suc n) = ap suc (length_bits words (suc i) n)
 
-pub bit_get : (words : List ℕ) (i n k : ℕ) (d : Bool) → k < n → get_or (bits_from words i n) k d ≡ bit_of words (i + k)
+pub bit_get : (words : List ℕ) (i n k : ℕ) (d : Bool) → k < n → get_or (bits_from words i n) k d ≡ bit_in_words words (i + k)
 bit_get words i zero k d h = absurd (omega arith)
-bit_get words i (suc n) zero d h = ap (bit_of words) (omega arith)
-bit_get words i (suc n) (suc k) d h = let e : suc i + k ≡ i + suc k = omega arith in bit_get words (suc i) n k d (omega arith) ∙ ap (bit_of words) e
+bit_get words i (suc n) zero d h = ap (bit_in_words words) (omega arith)
+bit_get words i (suc n) (suc k) d h = let e : suc i + k ≡ i + suc k = omega arith in bit_get words (suc i) n k d (omega arith) ∙ ap (bit_in_words words) e
 
 -- ---- no bit is set
 zero_word : (m k : ℕ) → let none : ℕ = 0 in get_or (replicate m none) k none ≡ none
@@ -28,7 +28,7 @@ zero_word zero k = refl
 zero_word (suc m) zero = refl
 zero_word (suc m) (suc k) = zero_word m k
 
-zero_bit : (m i : ℕ) → bit_of (replicate m 0) i ≡ false
+zero_bit : (m i : ℕ) → bit_in_words (replicate m 0) i ≡ false
 zero_bit m i = rw zero_word (rw bit_at-zero refl)
 
 pub bits_zero : (m i n : ℕ) → bits_from (replicate m 0) i n ≡ replicate n false
@@ -39,12 +39,12 @@ bits_zero m i (suc n) = ap₂ ◌∷◌ (zero_bit m i) (bits_zero m (suc i) n)
 abbrev with_bit : List ℕ → ℕ → List ℕ
 with_bit words i = set words (i / 64) (bit_or (get_or words (i / 64) 0) (1 * 2 ^ (i % 64) % 2 ^ 64))
 
-same_bit : (words : List ℕ) (i : ℕ) → i / 64 < length words → bit_of (with_bit words i) i ≡ true
+same_bit : (words : List ℕ) (i : ℕ) → i / 64 < length words → bit_in_words (with_bit words i) i ≡ true
 same_bit words i h =
     ap (λ w. bit_at w (i % 64) == 1) (get_or-set_same words (i / 64) (bit_or (get_or words (i / 64) 0) (1 * 2 ^ (i % 64) % 2 ^ 64)) 0 h)
     ∙ ap (λ b. b == 1) (bit_at_set_same w64 (get_or words (i / 64) 0) (i % 64) (omega arith))
 
-other_bit : (words : List ℕ) (i k : ℕ) → i / 64 < length words → k ≢ i → bit_of (with_bit words i) k ≡ bit_of words k
+other_bit : (words : List ℕ) (i k : ℕ) → i / 64 < length words → k ≢ i → bit_in_words (with_bit words i) k ≡ bit_in_words words k
 other_bit words i k h ne =
     let v = bit_or (get_or words (i / 64) 0) (1 * 2 ^ (i % 64) % 2 ^ 64) in
     elim (cases_Bool (k / 64 == i / 64)) [
@@ -77,16 +77,16 @@ bits_set words n i h room =
               let e : k ≡ i = eqb-true _ _ same in
               ap (λ q. get_or (bits_from (with_bit words i) 0 n) q false) e
               ∙ bit_get (with_bit words i) 0 n i false h
-              ∙ ap (bit_of (with_bit words i)) (zero-add i)
+              ∙ ap (bit_in_words (with_bit words i)) (zero-add i)
               ∙ same_bit words i (omega arith)
               ∙ sym (get_or-set_same (bits_from words 0 n) i true false inside)
               ∙ ap (λ q. get_or (set (bits_from words 0 n) i true) q false) (sym e)
           | inr other ↦
               let ne : k ≢ i = eqb-false _ _ other in
               bit_get (with_bit words i) 0 n k false within
-              ∙ ap (bit_of (with_bit words i)) (zero-add k)
+              ∙ ap (bit_in_words (with_bit words i)) (zero-add k)
               ∙ other_bit words i k (omega arith) ne
-              ∙ ap (bit_of words) (sym (zero-add k))
+              ∙ ap (bit_in_words words) (sym (zero-add k))
               ∙ sym (bit_get words 0 n k false within)
               ∙ sym (get_or-set_other (bits_from words 0 n) i k true false ne)
         ]
@@ -94,13 +94,13 @@ bits_set words n i h room =
 -- ---- the first bit that is set here and not there
 -- bit number j of the words
 pub record BitOpen (here there : List ℕ) (j : ℕ) : Type 0 where
-  pub set : bit_of here j ≡ true
-  pub undone : bit_of there j ≡ false
+  pub set : bit_in_words here j ≡ true
+  pub undone : bit_in_words there j ≡ false
 
 -- what is set in the list isn't open
 pub set_closed : (here there : List ℕ) (n : ℕ) (done : List Bool) → bits_from there 0 n ≡ done → (j : ℕ) → j < n → get_or done j false ≡ true → BitOpen here there j → ⊥
 set_closed here there n done e j within set o =
-    let is : bit_of there j ≡ true = ap (bit_of there) (sym (zero-add j)) ∙ sym (bit_get there 0 n j false within) ∙ ap (λ (bs : List Bool). get_or bs j false) e ∙ set in
+    let is : bit_in_words there j ≡ true = ap (bit_in_words there) (sym (zero-add j)) ∙ sym (bit_get there 0 n j false within) ∙ ap (λ (bs : List Bool). get_or bs j false) e ∙ set in
     true≢false (sym is ∙ o.undone)
 
 -- a bit of x and not y
@@ -153,7 +153,7 @@ word_open here there k f h nz =
     }
 
 -- one bit, as the code reads it
-pub bit_read : (words : List ℕ) (i : ℕ) → (bit_and (get_or words (i / 64) 0 / 2 ^ (i % 64)) 1 == 1) ≡ bit_of words i
+pub bit_read : (words : List ℕ) (i : ℕ) → (bit_and (get_or words (i / 64) 0 / 2 ^ (i % 64)) 1 == 1) ≡ bit_in_words words i
 bit_read words i = ap (λ b. b == 1) (shr_and_one (get_or words (i / 64) 0) (i % 64))
 
 -- what an index reads
@@ -164,14 +164,14 @@ read_at words k x h e = e ∙ get_or_default words k x 0 h
 module _ (here there : List ℕ) (m n : ℕ) (row done : List Bool) (e : bits_from here 0 m ≡ row) (f : bits_from there 0 n ≡ done) (below : ℕ) (a : below ≤ m) (b : below ≤ n) where
   bit_open : (j : ℕ) → j < below → IsOpen row done j → BitOpen here there j
   bit_open j h o = record {
-    set = ap (bit_of here) (sym (zero-add j)) ∙ sym (bit_get here 0 m j false (omega arith)) ∙ ap (λ (bs : List Bool). get_or bs j false) e ∙ o.set;
-    undone = ap (bit_of there) (sym (zero-add j)) ∙ sym (bit_get there 0 n j false (omega arith)) ∙ ap (λ (bs : List Bool). get_or bs j false) f ∙ o.undone;
+    set = ap (bit_in_words here) (sym (zero-add j)) ∙ sym (bit_get here 0 m j false (omega arith)) ∙ ap (λ (bs : List Bool). get_or bs j false) e ∙ o.set;
+    undone = ap (bit_in_words there) (sym (zero-add j)) ∙ sym (bit_get there 0 n j false (omega arith)) ∙ ap (λ (bs : List Bool). get_or bs j false) f ∙ o.undone;
   }
 
   is_open : (j : ℕ) → j < below → BitOpen here there j → IsOpen row done j
   is_open j h o = record {
-    set = ap (λ (bs : List Bool). get_or bs j false) (sym e) ∙ bit_get here 0 m j false (omega arith) ∙ ap (bit_of here) (zero-add j) ∙ o.set;
-    undone = ap (λ (bs : List Bool). get_or bs j false) (sym f) ∙ bit_get there 0 n j false (omega arith) ∙ ap (bit_of there) (zero-add j) ∙ o.undone;
+    set = ap (λ (bs : List Bool). get_or bs j false) (sym e) ∙ bit_get here 0 m j false (omega arith) ∙ ap (bit_in_words here) (zero-add j) ∙ o.set;
+    undone = ap (λ (bs : List Bool). get_or bs j false) (sym f) ∙ bit_get there 0 n j false (omega arith) ∙ ap (bit_in_words there) (zero-add j) ∙ o.undone;
   }
 
   -- all words were closed
@@ -210,8 +210,8 @@ pub bits_flipped : (words other new : List ℕ) (n m j : ℕ) → j < n → j < 
 bits_flipped words other new n m j h k flip room =
     let word = flip (j / 64) (omega arith) in
     bit_get new 0 n j false h
-    ∙ ap (bit_of new) (zero-add j)
+    ∙ ap (bit_in_words new) (zero-add j)
     ∙ ap (λ w. bit_at w (j % 64) == 1) word
     ∙ flipped_bit (get_or words (j / 64) 0) (get_or other (j / 64) 0) (j % 64)
-    ∙ (λ i. xor (bit_of words (sym (zero-add j) i)) (bit_of other (sym (zero-add j) i)))
+    ∙ (λ i. xor (bit_in_words words (sym (zero-add j) i)) (bit_in_words other (sym (zero-add j) i)))
     ∙ (λ i. xor (sym (bit_get words 0 n j false h) i) (sym (bit_get other 0 m j false k) i))

@@ -8,7 +8,7 @@ use Rattle.pauli_product.specs.declared.Letter.TheVariants.{I, X, Z}
 use Rattle.pauli_product.specs.Letters.{letters_clash}
 use Rattle.pauli_product.specs.Signed.{Signed, plus, clashes, commute}
 use Rattle.pauli_product.specs.Corrections.{xor}
-use Rattle.commute_order.specs.Columns.{letter_in, IsColumns, clash_bit}
+use Rattle.commute_order.specs.inside.Columns.{letter_in, IsColumns, clash_bit}
 
 -- an odd number of clashes
 abbrev pub odd : List Letter → List Letter → Bool

@@ -7,8 +7,10 @@ use Rattle.std.proofs.lemmas.List.Elements.{Contains-push_cases}
 use Rattle.pauli_product.specs.Signed.{Signed, plus, commute}
 use Rattle.commute_order.specs.declared.Uses.{Uses}
 use Rattle.commute_order.specs.declared.sharing.Writer.{Writer}
-use Rattle.commute_order.specs.Commuting.{reads_bit, reads_from, commuting_at}
-use Rattle.commute_order.specs.Sharing.{ListsWriters, shares_bit, IsTriangle, mark, pair_with}
+use Rattle.commute_order.specs.Commuting.{reads_from, commuting_at}
+use Rattle.commute_order.specs.inside.Commuting.{reads_bit}
+use Rattle.commute_order.specs.Sharing.{mark}
+use Rattle.commute_order.specs.inside.Sharing.{ListsWriters, shares_bit, IsTriangle, pair_with}
 
 or_true : (a b : Bool) → b ≡ true → true ≡ (a || b)
 or_true a b e = grind arith

@@ -4,7 +4,7 @@ use Rattle.std.proofs.lemmas.Option.{get_or_from_slice_get, slice_get-get_or}
 use Rattle.pauli_product.specs.Signed.{Signed, plus, commute}
 use Rattle.pauli_product.proofs.Laws.{commuting_mutual}
 use Rattle.commute_order.specs.declared.Uses.{Uses}
-use Rattle.commute_order.specs.Words.{IsOpen}
+use Rattle.commute_order.specs.inside.Words.{IsOpen}
 use Rattle.commute_order.specs.Commuting.{reads_from, commuting, commuting_at, IsOrder, WaitsOn, LeastWait}
 
 swapped : (a b c d : Bool) → a ≡ d → a && b && c ≡ d && c && b

@@ -8,8 +8,8 @@ use Rattle.std.proofs.lemmas.List.Sorted.{All-permutation, Contains-permutation}
 use Rattle.std.specs.List.Sorted.{IsPermutation}
 use Rattle.commute_order.specs.declared.Uses.{Uses}
 use Rattle.commute_order.specs.declared.sharing.Writer.{Writer}
-use Rattle.commute_order.specs.Commuting.{reads_bit}
-use Rattle.commute_order.specs.Sharing.{ListsWriters}
+use Rattle.commute_order.specs.inside.Commuting.{reads_bit}
+use Rattle.commute_order.specs.inside.Sharing.{ListsWriters}
 
 -- ---- one more product
 none_some : (w : Option ℕ) (bit : ℕ) → w ≡ None → w ≡ Some bit → ⊥

@@ -1,17 +1,13 @@
 -- When products with bits that they read and write commute, and what a product waits on.
 use Rattle.std.specs.Prelude.{◌≡◌, ℕ, ◌<◌, ◌≤◌, Bool, false, not, List, [], length, slice_get, slice_index_or, Option, Some, None, All}
 use Rattle.pauli_product.specs.Signed.{Signed, plus, OfLength}
-use Rattle.pauli_product.specs.Commuting.{BitUses, is_among, is_read}
+use Rattle.pauli_product.specs.Commuting.{BitUses, is_among}
 use Rattle.pauli_product.specs.Commuting as uses
 use Rattle.commute_order.specs.declared.Uses.{Uses}
 
 -- the bits that a product reads and writes
 abbrev pub bits_of : Uses → BitUses
 bits_of u = record { reads = is_among u.read_first u.read_size; write = u.write }
-
--- whether the first reads the bit that is written
-abbrev pub reads_bit : Uses → Option ℕ → Bool
-reads_bit u write = is_read (bits_of u).reads write
 
 -- whether the first reads a bit that the second writes
 abbrev pub reads_from : Uses → Uses → Bool

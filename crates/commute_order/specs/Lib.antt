@@ -1,4 +1,3 @@
-pub mod Words
 pub mod Commuting
-pub mod Columns
 pub mod Sharing
+pub mod inside

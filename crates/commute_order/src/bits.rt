@@ -2,7 +2,7 @@
 
 ghost use Rattle.std.specs.Prelude.{◌≡◌, ℕ, ◌<◌, ◌≤◌, true, false, length, replicate, slice_set, slice_index, slice_index_or, bit_xor, IfOk, MatchOption};
 ghost use Rattle.pauli_product.specs.Corrections.{xor};
-ghost use Rattle.commute_order.specs.Words.{IsOpen, IsSetTo};
+ghost use Rattle.commute_order.specs.inside.Words.{IsOpen, IsSetTo};
 
 use patch_base::Memory;
 use std::alloc::Global;
@@ -19,7 +19,7 @@ impl Model for Bits {
 
     ghost Value = { List Bool };
 
-    ghost use Rattle.commute_order.specs.Words.{bits_from, Holds};
+    ghost use Rattle.commute_order.specs.inside.Words.{bits_from, Holds};
 
     ghost view = { λ b. bits_from b.words.items 0 b.len };
 

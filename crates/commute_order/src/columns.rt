@@ -9,7 +9,7 @@ ghost use Rattle.pauli_product.specs.declared.Letter.TheVariants.{I, X, Z};
 ghost use Rattle.pauli_product.specs.Letters.{letters_clash};
 ghost use Rattle.pauli_product.specs.Signed.{Signed, plus, commute};
 ghost use Rattle.pauli_product.specs.Corrections.{xor};
-ghost use Rattle.commute_order.specs.Columns.{IsColumns, clash_bit};
+ghost use Rattle.commute_order.specs.inside.Columns.{IsColumns, clash_bit};
 
 use crate::bits::Bits;
 use patch_base::Memory;

@@ -8,8 +8,9 @@ mod sharing;
 ghost use Rattle.std.specs.Prelude.{◌≡◌, ◌≢◌, ℕ, ◌+◌, ◌<◌, ◌≤◌, true, false, not, List, length, replicate, slice_get, slice_set, slice_index_or, Some, IfOk, OnOk, All, []};
 ghost use Rattle.pauli_product.specs.declared.Letter.TheVariants.{X, Z};
 ghost use Rattle.pauli_product.specs.Signed.{Signed, plus, OfLength, commute};
-ghost use Rattle.commute_order.specs.Columns.{IsColumns};
-ghost use Rattle.commute_order.specs.Sharing.{IsTriangle, mark};
+ghost use Rattle.commute_order.specs.inside.Columns.{IsColumns};
+ghost use Rattle.commute_order.specs.Sharing.{mark};
+ghost use Rattle.commute_order.specs.inside.Sharing.{IsTriangle};
 ghost use Rattle.commute_order.specs.Commuting.{commuting_at, IsOrder, OneLength, LeastWait};
 
 use bits::Bits;
@@ -104,7 +105,7 @@ impl Model for DoneSet {
 
     ghost Value = { List Bool };
 
-    ghost use Rattle.commute_order.specs.Words.{IsSetTo};
+    ghost use Rattle.commute_order.specs.inside.Words.{IsSetTo};
 
     ghost view = { λ d. d.bits };
 

@@ -7,8 +7,10 @@ ghost use Rattle.std.specs.Prelude.{◌≡◌, ℕ, ◌+◌, ◌<◌, ◌≤◌,
 ghost use Rattle.std.specs.List.Sorted.{IsNonDecreasingBy};
 ghost use Rattle.commute_order.specs.declared.Uses.{Uses};
 ghost use Rattle.commute_order.specs.declared.sharing.Writer.{Writer};
-ghost use Rattle.commute_order.specs.Commuting.{reads_bit, reads_from};
-ghost use Rattle.commute_order.specs.Sharing.{ListsWriters, IsTriangle, mark, pair_with, shares_bit};
+ghost use Rattle.commute_order.specs.Commuting.{reads_from};
+ghost use Rattle.commute_order.specs.inside.Commuting.{reads_bit};
+ghost use Rattle.commute_order.specs.Sharing.{mark};
+ghost use Rattle.commute_order.specs.inside.Sharing.{ListsWriters, IsTriangle, pair_with, shares_bit};
 
 use crate::Uses;
 use crate::bits::Bits;

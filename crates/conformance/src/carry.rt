@@ -1,7 +1,7 @@
 //! Carries a case out, and compares how it ends.
 
 ghost use Rattle.std.specs.Prelude.{◌≡◌, ◌≤◌, IsTrue, true, false};
-ghost use Rattle.conformance.specs.Ends.{EndsIn};
+ghost use Rattle.conformance.specs.inside.Ends.{EndsIn};
 
 use crate::case::Case;
 use crate::shelf::CaseShelf;

@@ -1,5 +1,5 @@
 ghost use Rattle.std.specs.Prelude.{◌≡◌, ◌≤◌, ◌++◌, ◌∷◌, [], IfOk};
-ghost use Rattle.number_share.specs.Hands.{IsOf};
+ghost use Rattle.number_share.specs.Hands.{IsHandOf};
 
 use number_share::{Hand, Share};
 use patch_base::PRODUCTS;
@@ -9,7 +9,7 @@ use std::thread::join;
 
 fn pair(alloc: Global, numbers: u32) -> Result<(Share, Hand, Hand), Fail>
     requires { numbers ≤ PRODUCTS }
-    ensures { IfOk result (λ r. (r.0.owners ≡ 2) × IsOf r.0 r.1 × IsOf r.0 r.2) }
+    ensures { IfOk result (λ r. (r.0.owners ≡ 2) × IsHandOf r.0 r.1 × IsHandOf r.0 r.2) }
 {
     let (share, mut hands) = Share::new(alloc, numbers, 2)?;
     let second = hands.pop().ok_or("a hand")?;
@@ -19,8 +19,8 @@ fn pair(alloc: Global, numbers: u32) -> Result<(Share, Hand, Hand), Fail>
 
 fn gathered(alloc: Global, share: Share, first: Hand, second: Hand) -> Result<Vec<u32>, Fail>
     requires owners { share.owners ≡ 2 }
-    requires first { IsOf share first }
-    requires second { IsOf share second }
+    requires first { IsHandOf share first }
+    requires second { IsHandOf share second }
 {
     let mut hands = Vec::with_capacity(alloc, 2)?;
     hands.push(first)?;
@@ -29,8 +29,8 @@ fn gathered(alloc: Global, share: Share, first: Hand, second: Hand) -> Result<Ve
 }
 
 fn expect(share: &Share, hand: &mut Hand, number: u32) -> Result<(), Fail>
-    requires { IsOf share.now hand.old }
-    ensures share { IsOf share.now hand.new }
+    requires { IsHandOf share.now hand.old }
+    ensures share { IsHandOf share.now hand.new }
     ensures held { IfOk result (λ _. hand.new.held ≡ hand.old.held ++ number ∷ []) }
 {
     let taken = hand.take(share).ok_or("a number")?;
@@ -42,7 +42,7 @@ fn expect(share: &Share, hand: &mut Hand, number: u32) -> Result<(), Fail>
 
 // Hand 0 took 0 and 1, hand 1 took 2, and 0 was put back.
 fn begun(alloc: Global) -> Result<(Share, Hand, Hand), Fail>
-    ensures { IfOk result (λ r. (r.0.owners ≡ 2) × IsOf r.0 r.1 × IsOf r.0 r.2) }
+    ensures { IfOk result (λ r. (r.0.owners ≡ 2) × IsHandOf r.0 r.1 × IsHandOf r.0 r.2) }
 {
     let (share, mut first, mut second) = pair(alloc, 5)?;
     expect(&share, &mut first, 0)?;
@@ -74,8 +74,8 @@ fn takes_again_what_was_put(rt: HostRuntime) -> Result<(), Fail> {
 
 // Takes as often as there are numbers.
 fn drain(share: &Share, mut hand: Hand) -> (Hand, u32)
-    requires { IsOf share.now hand }
-    ensures { IsOf share.now result.0 }
+    requires { IsHandOf share.now hand }
+    ensures { IsHandOf share.now result.0 }
 {
     let mut taken = 0u32;
     for _ in 0..1000u32 {
@@ -93,12 +93,12 @@ fn two_threads(rt: HostRuntime) -> Result<(), Fail> {
     let (a, b) = join(
         &rt,
         || -> (Hand, u32)
-            requires { IsOf shared.now first }
-            ensures { IsOf shared.entry.now result.0 }
+            requires { IsHandOf shared.now first }
+            ensures { IsHandOf shared.entry.now result.0 }
         { drain(shared, first) },
         || -> (Hand, u32)
-            requires { IsOf shared.now second }
-            ensures { IsOf shared.entry.now result.0 }
+            requires { IsHandOf shared.now second }
+            ensures { IsHandOf shared.entry.now result.0 }
         { drain(shared, second) },
     );
     assert_eq!(rt; a.1.wrapping_add(b.1), 1000);

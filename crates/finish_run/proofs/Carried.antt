@@ -11,7 +11,7 @@ use Rattle.patch_layout.specs.declared.plan.Plan.{Plan}
 use Rattle.board_core.specs.declared.Entry.{Entry}
 use Rattle.board_core.specs.declared.Entry.TheVariants.{Claim, Deliver, Release, Settle}
 use Rattle.board_core.specs.History.{History, is_claim_of, is_done_by, is_release_of, claim_place, done_place, release_place, delivered}
-use Rattle.board_core.specs.Legal.{Job, Allowed}
+use Rattle.board_core.specs.Legal.{BoardJob, Allowed}
 use Rattle.board_core.specs.Books.{TakesRegion}
 use Rattle.board_core.specs.Position.{Position, past, with_entry, IsLegal}
 use Rattle.board_core.specs.Causes.{EntryOf, IsDeliverable, claim_of}
@@ -21,7 +21,7 @@ use Rattle.board_core.proofs.Holding.{release_claimed}
 use Rattle.source_model.specs.Statics.{AreOutcomesOf}
 use Rattle.finish_run.specs.Next.{Meeting, IsIdle, IsPending, IsTurnOf, IsUnreleased, NoneIs, never}
 use Rattle.finish_run.specs.Finished.{GoesOn}
-use Rattle.finish_run.specs.Looks.{IsServed, ShowsTurn}
+use Rattle.finish_run.specs.inside.Looks.{IsServed, ShowsTurn}
 use Rattle.finish_run.proofs.Onward.{goes_any, goes_job, goes_more, goes_one}
 use Rattle.finish_run.proofs.Past.{done_now, done_stays, not_both, past_push, pending_push, some_or_none, unreleased_push}
 use Rattle.finish_run.proofs.Pending.{Delivered, entry_is, one_delivered, one_released, outcome_at, released_is, released_pending}
@@ -120,7 +120,7 @@ module _ (M : Meeting) (gs : List Given) (b c : Position) (p : ℕ) (look : Look
       record {
         begun = record {
           static = s.static;
-          product = ap (λ (j : Job). slice_get j.products p) same_job ∙ s.is;
+          product = ap (λ (j : BoardJob). slice_get j.products p) same_job ∙ s.is;
           claimed = λ _. has_claim;
         };
         undone = undone;
@@ -191,7 +191,7 @@ served_kind (kind.Settle first size value) (given.Measure raw) o unsettled = abs
 served_kind (kind.Settle first size value) given.Settled o unsettled = absurd (unsettled refl)
 
 pub outcomes_same : (a b : Position) (gs : List Given) → GoesOn never gs a b → AreOutcomesOf gs a.job.products → AreOutcomesOf gs b.job.products
-outcomes_same a b gs goes all = subst (λ (j : Job). AreOutcomesOf gs j.products) (sym (goes_job never gs a b goes)) all
+outcomes_same a b gs goes all = subst (λ (j : BoardJob). AreOutcomesOf gs j.products) (sym (goes_job never gs a b goes)) all
 
 pub is_served : (b : Position) (p : ℕ) (gs : List Given) (g : Given) (look : Look) → AreOutcomesOf gs b.job.products → ShowsTurn b p look → slice_get gs p ≡ Some g → (g ≡ given.Settled → ⊥) → IsServed b p
 is_served b p gs g look all shows at unsettled =

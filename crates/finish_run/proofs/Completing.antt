@@ -8,12 +8,13 @@ use Rattle.source_model.specs.declared.Static.{Static}
 use Rattle.board_core.specs.declared.Entry.TheVariants.{Deliver}
 use Rattle.board_core.specs.Books.{TakesRegion}
 use Rattle.board_core.specs.History.{History, claim_place, delivered, done_place, release_place}
-use Rattle.board_core.specs.Legal.{Job, Complete, CompleteAt}
+use Rattle.board_core.specs.Legal.{BoardJob, Complete, CompleteAt}
 use Rattle.board_core.specs.Position.{Position, past, IsLegal}
 use Rattle.board_core.proofs.Places.{or_else, some_of, delivered-append}
 use Rattle.board_core.proofs.LegalOrder.{delivered_at}
 use Rattle.finish_run.specs.Next.{Meeting, IsIdle}
-use Rattle.finish_run.specs.Finished.{DoneBelow, GoesOn, own_from, own_or_given}
+use Rattle.finish_run.specs.Finished.{GoesOn, own_from, own_or_given}
+use Rattle.finish_run.specs.inside.Finished.{DoneBelow}
 use Rattle.finish_run.proofs.Onward.{goes_job, goes_past}
 use Rattle.finish_run.proofs.Past.{delivered_is, done_is, some_or_none}
 
@@ -49,13 +50,13 @@ at_kind kind.Rotation h p g x done = x tt
 at_kind (kind.Measure bit) h p g x done = x tt
 at_kind (kind.Settle first size value) h p g x done = done
 
-was_delivered : (j : Job) (h : History) (p : ℕ) (s t : Static) → slice_get j.products p ≡ Some s → slice_get j.products p ≡ Some t → IsSome (delivered h p) ⊎ (TakesRegion t.kind → ⊥) → TakesRegion s.kind → IsSome (delivered h p)
+was_delivered : (j : BoardJob) (h : History) (p : ℕ) (s t : Static) → slice_get j.products p ≡ Some s → slice_get j.products p ≡ Some t → IsSome (delivered h p) ⊎ (TakesRegion t.kind → ⊥) → TakesRegion s.kind → IsSome (delivered h p)
 was_delivered j h p s t e f (inl x) region = x
 was_delivered j h p s t e f (inr without) region = absurd (without (subst (λ (z : Static). TakesRegion z.kind) (same_Some s t (sym e ∙ f)) region))
 
 pub complete : (M : Meeting) (gs : List Given) (b c : Position) → GoesOn M gs b c → IsLegal c → IsIdle (past c) → DoneBelow (past c) (length b.job.products) → Complete c.job (past c) (own_or_given (past b) gs)
 complete M gs b c goes legal idle done p s g product table =
-    let same : length c.job.products ≡ length b.job.products = ap (λ (j : Job). length j.products) (goes_job M gs b c goes) in
+    let same : length c.job.products ≡ length b.job.products = ap (λ (j : BoardJob). length j.products) (goes_job M gs b c goes) in
     let within = slice_get_within c.job.products p s product in
     let here = done p (omega (arith, same, within)) in
     let how = done_is c.job (past c) p legal.legal here in
@@ -72,4 +73,4 @@ complete M gs b c goes legal idle done p s g product table =
     here
 
 pub done_same : (M : Meeting) (gs : List Given) (b c : Position) (h : History) → GoesOn M gs b c → DoneBelow h (length c.job.products) → DoneBelow h (length b.job.products)
-done_same M gs b c h goes done = subst (λ (j : Job). DoneBelow h (length j.products)) (goes_job M gs b c goes) done
+done_same M gs b c h goes done = subst (λ (j : BoardJob). DoneBelow h (length j.products)) (goes_job M gs b c goes) done

@@ -9,7 +9,7 @@ use Rattle.source_model.specs.declared.Static.{Static}
 use Rattle.board_core.specs.declared.Entry.{Entry}
 use Rattle.board_core.specs.declared.Entry.TheVariants.{Claim, Deliver, Release, Step, Settle}
 use Rattle.board_core.specs.History.{History, is_claim_of, is_done_by, is_release_of, claim_place, done_place, release_place, delivered, delivery_in}
-use Rattle.board_core.specs.Legal.{Job, Allowed, Legal, Holds, IsKind, TakesState}
+use Rattle.board_core.specs.Legal.{BoardJob, Allowed, Legal, Holds, IsKind, TakesState}
 use Rattle.board_core.specs.declared.board.Standing.{Standing}
 use Rattle.board_core.specs.Books.{TakesRegion, standing_of}
 use Rattle.board_core.specs.Position.{Position, past, with_entry}
@@ -54,7 +54,7 @@ delivered_there (e ∷ h) (suc k) q g at = go (delivery_in q e) (delivered_there
     go (Some y) s = refl
 
 -- ---- a product that is claimed, delivered or done
-region_of : (j : Job) (h : History) (k : Kind) (through state : Option ℕ) → TakesState j h k through state → TakesRegion k
+region_of : (j : BoardJob) (h : History) (k : Kind) (through state : Option ℕ) → TakesState j h k through state → TakesRegion k
 region_of j h kind.Rotation through state t = tt
 region_of j h (kind.Measure bit) through state t = tt
 region_of j h (kind.Settle first size value) through state t = t
@@ -67,7 +67,7 @@ region_kind (kind.Settle first size value) g t = t
 no_region : (k : Kind) (first size value : ℕ) → k ≡ kind.Settle first size value → TakesRegion k → ⊥
 no_region k first size value e t = subst TakesRegion e t
 
-pub claimed_product : (j : Job) (h : History) (q : ℕ) → Legal j h → IsSome (claim_place h q) → (s : Static) × (slice_get j.products q ≡ Some s) × TakesRegion s.kind
+pub claimed_product : (j : BoardJob) (h : History) (q : ℕ) → Legal j h → IsSome (claim_place h q) → (s : Static) × (slice_get j.products q ≡ Some s) × TakesRegion s.kind
 claimed_product j h q legal s =
     let k = some_of (claim_place h q) s in
     let at = found_at (is_claim_of q) h k.0 k.1 in
@@ -76,7 +76,7 @@ claimed_product j h q legal s =
     (a.product.0, a.product.1, region_of j (take k.0 h) a.product.0.kind is.1 is.2 a.product.2)
 
 -- what was delivered is claimed and done
-pub delivered_is : (j : Job) (h : History) (q : ℕ) → Legal j h → IsSome (delivered h q) → IsSome (claim_place h q) × IsSome (done_place h q)
+pub delivered_is : (j : BoardJob) (h : History) (q : ℕ) → Legal j h → IsSome (delivered h q) → IsSome (claim_place h q) × IsSome (done_place h q)
 delivered_is j h q legal s =
     let g = some_of (delivered h q) s in
     let at = delivered_at h q g.0 g.1 in
@@ -84,7 +84,7 @@ delivered_is j h q legal s =
     (some_take (is_claim_of q) h at.0 a.0, done_stands h q ∙ delivered_done h q s)
 
 -- a product that is done was delivered, or takes no region
-pub done_is : (j : Job) (h : History) (q : ℕ) → Legal j h → IsSome (done_place h q) → (s : Static) × (slice_get j.products q ≡ Some s) × (IsSome (delivered h q) ⊎ (TakesRegion s.kind → ⊥))
+pub done_is : (j : BoardJob) (h : History) (q : ℕ) → Legal j h → IsSome (done_place h q) → (s : Static) × (slice_get j.products q ≡ Some s) × (IsSome (delivered h q) ⊎ (TakesRegion s.kind → ⊥))
 done_is j h q legal s =
     let k = some_of (done_place h q) s in
     let at = found_at (is_done_by q) h k.0 k.1 in
@@ -99,7 +99,7 @@ done_is j h q legal s =
     ]
 
 -- a claimed product that is done was delivered
-pub claimed_done : (j : Job) (h : History) (q : ℕ) → Legal j h → IsSome (claim_place h q) → IsSome (done_place h q) → IsSome (delivered h q)
+pub claimed_done : (j : BoardJob) (h : History) (q : ℕ) → Legal j h → IsSome (claim_place h q) → IsSome (done_place h q) → IsSome (delivered h q)
 claimed_done j h q legal c d =
     let x = claimed_product j h q legal c in
     let y = done_is j h q legal d in
@@ -113,7 +113,7 @@ some_or_none None = inr refl
 some_or_none (Some a) = inl refl
 
 -- where each claimed product is delivered and released, nothing is held
-pub nothing_held : (j : Job) (h : History) → Legal j h → IsIdle h → (q c : ℕ) → Holds j.grid h q c → ⊥
+pub nothing_held : (j : BoardJob) (h : History) → Legal j h → IsIdle h → (q c : ℕ) → Holds j.grid h q c → ⊥
 nothing_held j h legal idle q c x =
     let claimed = place_there (is_claim_of q) h x.0 (Claim q x.1 x.2 x.3 x.4) x.5 (eq-eqb q q refl) in
     elim (some_or_none (done_place h q)) [
@@ -157,7 +157,7 @@ unreleased_push h e q x =
     go None s = inr (sym (ap is_some (delivered-append h (e ∷ []) q ∙ ap (λ (o : Option Given). or_else o (delivered (e ∷ []) q)) s)) ∙ x.0)
 
 -- ---- by the places that a board notes
-pub unreleased_by_places : (j : Job) (h : History) (q : ℕ) (s : Standing) (r : Bool) → Legal j h → s ≡ standing_of h q → IsTrue r ↔ (IsSome s.claim × IsSome s.deliver × (s.release ≡ None)) → IsTrue r ↔ IsUnreleased h q
+pub unreleased_by_places : (j : BoardJob) (h : History) (q : ℕ) (s : Standing) (r : Bool) → Legal j h → s ≡ standing_of h q → IsTrue r ↔ (IsSome s.claim × IsSome s.deliver × (s.release ≡ None)) → IsTrue r ↔ IsUnreleased h q
 unreleased_by_places j h q s r legal e i = (
   λ t.
       let x = subst (λ (z : Standing). IsSome z.claim × IsSome z.deliver × (z.release ≡ None)) e (i.0 t) in

@@ -12,12 +12,13 @@ use Rattle.patch_layout.specs.Openness.{Least}
 use Rattle.board_core.specs.declared.Entry.{Entry}
 use Rattle.board_core.specs.declared.Entry.TheVariants.{Deliver, Release}
 use Rattle.board_core.specs.History.{History, delivered}
-use Rattle.board_core.specs.Legal.{Job, Legal}
+use Rattle.board_core.specs.Legal.{BoardJob, Legal}
 use Rattle.board_core.specs.Books.{TakesRegion}
 use Rattle.board_core.specs.Position.{Position, past, with_entry, IsLegal}
 use Rattle.board_core.specs.Causes.{EntryOf, IsDeliverable}
 use Rattle.source_model.specs.Statics.{AreOutcomesOf}
-use Rattle.finish_run.specs.Next.{Meeting, IsPending, IsUnreleased, NoneBelow, NoneIs}
+use Rattle.finish_run.specs.Next.{Meeting, IsPending, IsUnreleased, NoneIs}
+use Rattle.finish_run.specs.inside.Next.{NoneBelow}
 use Rattle.finish_run.specs.Finished.{GoesOn}
 use Rattle.finish_run.proofs.Onward.{goes_job, goes_one}
 use Rattle.finish_run.proofs.Past.{past_push, pending_push, unreleased_push, claimed_product, delivered_is}
@@ -51,10 +52,10 @@ entry_is p (given.Measure raw) e not x = x
 entry_is p given.Settled e not x = absurd (not refl)
 
 -- ---- a delivery
-pub pending_within : (j : Job) (h : History) (q : ℕ) → Legal j h → IsPending h q → q < length j.products
+pub pending_within : (j : BoardJob) (h : History) (q : ℕ) → Legal j h → IsPending h q → q < length j.products
 pending_within j h q legal x = let s = claimed_product j h q legal x.0 in slice_get_within j.products q s.0 s.1
 
-pub unreleased_within : (j : Job) (h : History) (q : ℕ) → Legal j h → IsUnreleased h q → q < length j.products
+pub unreleased_within : (j : BoardJob) (h : History) (q : ℕ) → Legal j h → IsUnreleased h q → q < length j.products
 unreleased_within j h q legal x = let s = claimed_product j h q legal (delivered_is j h q legal x.0).0 in slice_get_within j.products q s.0 s.1
 
 pending_outcome : (b : Position) (p : ℕ) (g : Given) (gs : List Given) → IsLegal b → AreOutcomesOf gs b.job.products → IsPending (past b) p → slice_get gs p ≡ Some g
@@ -146,14 +147,14 @@ least_delivered M gs b c p g e legal all below pending at is same =
 -- ---- at the end of each phase
 pub none_pending : (M : Meeting) (gs : List Given) (b c : Position) (n : ℕ) → GoesOn M gs b c → IsLegal c → AreOutcomesOf gs b.job.products → length gs ≤ n → NoneBelow (IsPending (past c)) n → NoneIs (IsPending (past c))
 none_pending M gs b c n goes legal all whole below q x =
-    let same : length c.job.products ≡ length b.job.products = ap (λ (j : Job). length j.products) (goes_job M gs b c goes) in
+    let same : length c.job.products ≡ length b.job.products = ap (λ (j : BoardJob). length j.products) (goes_job M gs b c goes) in
     let many = as_many b.job.products gs all in
     let within = pending_within c.job (past c) q legal.legal x in
     below q (omega (arith, same, many, within, whole)) x
 
 pub none_unreleased : (M : Meeting) (gs : List Given) (b c : Position) (n : ℕ) → GoesOn M gs b c → IsLegal c → length b.job.products ≤ n → NoneBelow (IsUnreleased (past c)) n → NoneIs (IsUnreleased (past c))
 none_unreleased M gs b c n goes legal whole below q x =
-    let same : length c.job.products ≡ length b.job.products = ap (λ (j : Job). length j.products) (goes_job M gs b c goes) in
+    let same : length c.job.products ≡ length b.job.products = ap (λ (j : BoardJob). length j.products) (goes_job M gs b c goes) in
     let within = unreleased_within c.job (past c) q legal.legal x in
     below q (omega (arith, same, within, whole)) x
 

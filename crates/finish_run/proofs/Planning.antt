@@ -3,7 +3,7 @@ use Rattle.std.proofs.Common.{◌≡◌, ◌≢◌, ◌⊎◌, inl, inr, ℕ, �
 use Rattle.std.proofs.lemmas.Option.{same_Some, none-some, slice_get_within, slice_get-get_or, get_or_from_slice_get}
 use Rattle.pauli_product.specs.declared.Letter.{Letter}
 use Rattle.pauli_product.specs.declared.Letter.TheVariants as letter
-use Rattle.pauli_product.specs.Signed.{Signed}
+use Rattle.pauli_product.specs.Signed.{Signed, HasLetter}
 use Rattle.source_model.specs.declared.Kind.{Kind}
 use Rattle.source_model.specs.declared.Kind.TheVariants as kind
 use Rattle.source_model.specs.declared.Static.{Static}
@@ -19,7 +19,7 @@ use Rattle.patch_layout.specs.Grid.{IsPort}
 use Rattle.patch_layout.specs.Row.{StandsAtUsed, HasNamed, WholeFits, WholeIsAncilla, ancilla_cells}
 use Rattle.patch_layout.proofs.Whole.{side_ancilla}
 use Rattle.patch_layout.proofs.Places.{get_from_Contains}
-use Rattle.region_plan.specs.Free.{HasLetter, HasState, IsUnheld, MayTake, PatchHeld, Serves as ServesIn}
+use Rattle.region_plan.specs.Free.{HasState, IsUnheld, MayTake, PatchHeld, Serves as ServesIn}
 use Rattle.region_plan.specs.Answer.{Answers, IsBlocked, IsRegion}
 use Rattle.region_plan.specs.declared.answer.Planned.{Planned}
 use Rattle.region_plan.specs.declared.answer.Planned.TheVariants as planned
@@ -31,7 +31,7 @@ use Rattle.board_core.specs.History.{known, claim_place}
 use Rattle.board_core.specs.Legal.{AxisOf, Holds}
 use Rattle.board_core.specs.View.{LeastWait}
 use Rattle.board_core.specs.Position.{Position, past, IsLegal}
-use Rattle.finish_run.specs.Looks.{IsServed, IsStocked, ShowsTurn}
+use Rattle.finish_run.specs.inside.Looks.{IsServed, IsStocked, ShowsTurn}
 use Rattle.finish_run.proofs.Past.{nothing_held}
 use Rattle.finish_run.proofs.Turns.{look_untaken, look_waits, turn_unclaimed, turn_waits}
 use Rattle.finish_run.proofs.Lengths.{items_long}

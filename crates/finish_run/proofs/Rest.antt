@@ -11,7 +11,8 @@ use Rattle.board_core.proofs.Going.{some_take}
 use Rattle.board_core.proofs.Tables.{entry_of}
 use Rattle.source_model.specs.Statics.{AreOutcomesOf}
 use Rattle.finish_run.specs.Next.{Meeting, IsIdle, IsTurnOf}
-use Rattle.finish_run.specs.Finished.{DoneBelow, GoesOn}
+use Rattle.finish_run.specs.Finished.{GoesOn}
+use Rattle.finish_run.specs.inside.Finished.{DoneBelow}
 use Rattle.finish_run.proofs.Onward.{goes_past}
 use Rattle.finish_run.proofs.Past.{not_both}
 use Rattle.finish_run.proofs.Pending.{as_many}

@@ -13,20 +13,21 @@ use Rattle.region_plan.specs.Free.{LacksState}
 use Rattle.board_core.specs.declared.Entry.{Entry}
 use Rattle.board_core.specs.declared.Entry.TheVariants.{Step}
 use Rattle.board_core.specs.History.{History, is_done_by, done_place}
-use Rattle.board_core.specs.Legal.{Job, Allowed}
+use Rattle.board_core.specs.Legal.{BoardJob, Allowed}
 use Rattle.board_core.specs.Position.{Position, past, with_entry, note, IsLegal}
 use Rattle.board_core.specs.Causes.{ready, is_rotation}
 use Rattle.board_core.proofs.Standings.{place_stays}
-use Rattle.finish_run.specs.Next.{Meeting, IsIdle, IsTurnOf, IsRotation, IsFactory, NoStates, WantsState}
+use Rattle.finish_run.specs.Next.{Meeting, IsIdle, IsTurnOf, IsRotation, IsFactory, NoStates}
+use Rattle.finish_run.specs.inside.Next.{WantsState}
 use Rattle.finish_run.specs.Finished.{GoesOn, by_zero}
 use Rattle.board_core.specs.Laws.{ProductsOfLength}
 use Rattle.board_core.specs.Shows.{IsMadeFor}
-use Rattle.finish_run.specs.Looks.{ShowsTurn}
+use Rattle.finish_run.specs.inside.Looks.{ShowsTurn}
 use Rattle.finish_run.proofs.Past.{past_push, pending_push, unreleased_push}
 use Rattle.finish_run.proofs.Stocked.{few, none_ready}
 
 -- ---- the turn
-abbrev pub TurnIn : Job → History → ℕ → Type 0
+abbrev pub TurnIn : BoardJob → History → ℕ → Type 0
 TurnIn j h p = IsIdle h × ((s : Static) × (slice_get j.products p ≡ Some s)) × Least (λ q. done_place h q ≡ None) p
 
 idle_step : (h : History) (f : ℕ) → IsIdle h → IsIdle (h ++ Step f ∷ [])
@@ -35,7 +36,7 @@ idle_step h f i = (
   λ q x. elim (unreleased_push h (Step f) q x).1 [ inl y ↦ i.1 q y | inr t ↦ true≢false (sym t) ],
 )
 
-turn_in_step : (j : Job) (h : History) (f p : ℕ) → TurnIn j h p → TurnIn j (h ++ Step f ∷ []) p
+turn_in_step : (j : BoardJob) (h : History) (f p : ℕ) → TurnIn j h p → TurnIn j (h ++ Step f ∷ []) p
 turn_in_step j h f p t = (
   idle_step h f t.0,
   t.1,
@@ -45,11 +46,11 @@ turn_in_step j h f p t = (
 pub turn_step : (b c : Position) (f : ℕ) → c ≡ with_entry b 0 (Step f) → (p : ℕ) → IsTurnOf b p → IsTurnOf c p
 turn_step b c f is p t =
     let job : c.job ≡ b.job = ap (λ (q : Position). q.job) is in
-    subst (λ (j : Job). TurnIn j (past c) p) (sym job)
+    subst (λ (j : BoardJob). TurnIn j (past c) p) (sym job)
     (subst (λ (h : History). TurnIn b.job h p) (sym (past_push b c (Step f) is)) (turn_in_step b.job (past b) f p t))
 
 pub same_rotation : (b c : Position) (p : ℕ) → c.job ≡ b.job → IsRotation b p → IsRotation c p
-same_rotation b c p job x = subst (λ (j : Job). (s : Static) × (slice_get j.products p ≡ Some s) × (s.kind ≡ kind.Rotation)) (sym job) x
+same_rotation b c p job x = subst (λ (j : BoardJob). (s : Static) × (slice_get j.products p ≡ Some s) × (s.kind ≡ kind.Rotation)) (sym job) x
 
 -- ---- the least factory
 pub factory_there : (b : Position) (p : ℕ) → IsLegal b → IsRotation b p → (f : ℕ) × (f < 16) × IsFactory b.job.grid f
@@ -91,8 +92,8 @@ wants_state b p look legal s lacks = record {
 }
 
 -- ---- looks that were made for a board
-abbrev pub MadeIn : Job → Look → Type 0
+abbrev pub MadeIn : BoardJob → Look → Type 0
 MadeIn j look = (length look.held ≡ length j.grid.sites) × ProductsOfLength (length look.axis.letters) j.products
 
 pub made_same : (b c : Position) (look : Look) → c.job ≡ b.job → IsMadeFor b look → IsMadeFor c look
-made_same b c look e x = subst (λ (j : Job). MadeIn j look) (sym e) x
+made_same b c look e x = subst (λ (j : BoardJob). MadeIn j look) (sym e) x

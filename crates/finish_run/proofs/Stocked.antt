@@ -5,7 +5,7 @@ use Rattle.std.proofs.lemmas.Option.{none-some, slice_get_within, slice_get-get_
 use Rattle.std.proofs.lemmas.Grind.{flat_map-append}
 use Rattle.magic_pool.specs.declared.Fail.{Fail}
 use Rattle.magic_pool.specs.declared.Stepped.TheVariants.{Running, Made, Failed}
-use Rattle.magic_pool.specs.Recount.{steps_of, is_made, makers_after, makers_of, ready_from, ready_of, is_listed}
+use Rattle.magic_pool.specs.Recount.{step_count, is_made, makers_after, makers_of, ready_from, ready_of, is_listed}
 use Rattle.magic_pool.specs.Pooled.{outcome_of}
 use Rattle.magic_pool.proofs.Readiness.{makers-push, maker_of}
 use Rattle.patch_layout.specs.declared.look.Look.{Look}
@@ -43,7 +43,7 @@ lacks look r rotation i = (
 -- ---- a ready state comes from a factory of the layout
 made_stepped : (fails : List Fail) (before fs : List ℕ) (k f : ℕ) → slice_get (makers_after fails before fs) k ≡ Some f → (m : ℕ) × (slice_get fs m ≡ Some f)
 made_stepped fails before [] k f e = absurd (none-some f e)
-made_stepped fails before (g ∷ fs) k f e = go (λ i x. made_stepped fails (before ++ g ∷ []) fs i f x) (is_made fails g (steps_of g before + 1)) k e
+made_stepped fails before (g ∷ fs) k f e = go (λ i x. made_stepped fails (before ++ g ∷ []) fs i f x) (is_made fails g (step_count g before + 1)) k e
   where
     go : ((i : ℕ) → slice_get (makers_after fails (before ++ g ∷ []) fs) i ≡ Some f → (m : ℕ) × (slice_get fs m ≡ Some f)) → (b : Bool) (k : ℕ)
         → slice_get (if b then (g ∷ makers_after fails (before ++ g ∷ []) fs) else makers_after fails (before ++ g ∷ []) fs) k ≡ Some f → (m : ℕ) × (slice_get (g ∷ fs) m ≡ Some f)
@@ -110,7 +110,7 @@ taken_push h f = flat_map-append states_in h (Step f ∷ []) ∙ append-nil (tak
 
 pub running_none : (b c : Position) (f : ℕ) → c ≡ with_entry b 0 (Step f) → Running ≡ stepped_by b f → NoStates b → NoStates c
 running_none b c f is running none g =
-    let made = running_makes b.job.fails f (steps_of f (steps (past b)) + 1) (length (makers_of b.job.fails (steps (past b)))) (sym running) in
+    let made = running_makes b.job.fails f (step_count f (steps (past b)) + 1) (length (makers_of b.job.fails (steps (past b)))) (sym running) in
     let same : makers_of b.job.fails (steps (past b) ++ f ∷ []) ≡ makers_of b.job.fails (steps (past b)) =
     makers-push b.job.fails (steps (past b)) f ∙ ap (λ (x : Bool). makers_of b.job.fails (steps (past b)) ++ (if x then f ∷ [] else [])) made ∙ append-nil (makers_of b.job.fails (steps (past b))) in
     ap (λ (q : Position). ready q g) is ∙ here g same

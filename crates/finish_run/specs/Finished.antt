@@ -1,9 +1,9 @@
 -- A history that goes on from another one, and the table that it is complete for.
-use Rattle.std.specs.Prelude.{◌≡◌, ℕ, ◌+◌, slice_get, List, [], ◌∷◌, ◌++◌, map, take, Some, unwrap_or, IsSome, All, ◌<◌}
+use Rattle.std.specs.Prelude.{◌≡◌, ℕ, ◌+◌, slice_get, List, [], ◌∷◌, ◌++◌, map, take, Some, unwrap_or, All}
 use Rattle.source_model.specs.declared.Given.{Given}
 use Rattle.board_core.specs.declared.Entry.{Entry}
 use Rattle.board_core.specs.declared.Noted.{Noted}
-use Rattle.board_core.specs.History.{History, delivered, done_place}
+use Rattle.board_core.specs.History.{History, delivered}
 use Rattle.board_core.specs.Position.{Position, with_history, note}
 use Rattle.finish_run.specs.Next.{Meeting, ComesNext}
 
@@ -29,10 +29,6 @@ own_from p h (g ∷ gs) = unwrap_or (delivered h p) g ∷ own_from (p + 1) h gs
 -- the history's own deliveries, and the handed-in outcomes elsewhere
 abbrev pub own_or_given : History → List Given → List Given
 own_or_given h given = own_from 0 h given
-
--- each product below p is done
-abbrev pub DoneBelow : History → ℕ → Type 0
-DoneBelow h p = (q : ℕ) → q < p → IsSome (done_place h q)
 
 -- a new board that is brought to its end has entries by worker 0 alone
 abbrev pub NewBoardsAreByZero : Type 0

@@ -1,3 +1,3 @@
 pub mod Next
-pub mod Looks
 pub mod Finished
+pub mod inside

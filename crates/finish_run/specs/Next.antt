@@ -1,5 +1,5 @@
 -- Which entry comes next where a board is brought to its end.
-use Rattle.std.specs.Prelude.{◌≡◌, ℕ, ◌<◌, slice_get, List, [], Option, Some, None, IsSome}
+use Rattle.std.specs.Prelude.{◌≡◌, ℕ, slice_get, List, [], Option, Some, None, IsSome}
 use Rattle.source_model.specs.declared.Static.{Static}
 use Rattle.source_model.specs.declared.Given.{Given}
 use Rattle.source_model.specs.declared.Kind.TheVariants as kind
@@ -59,12 +59,3 @@ ComesNext Meets given b (Claim p axis port state cells) = IsTurnOf b p × ((look
 -- no claim
 abbrev pub never : Meeting
 never g look port cells = ⊥
-
--- a rotation is next, and no factory has a ready state
-pub record WantsState (b : Position) (p : ℕ) : Type 0 where
-  pub turn : IsTurnOf b p
-  pub rotation : IsRotation b p
-  pub none : NoStates b
-
-abbrev pub NoneBelow : (ℕ → Type 0) → ℕ → Type 0
-NoneBelow P n = (p : ℕ) → p < n → P p → ⊥

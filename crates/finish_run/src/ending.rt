@@ -6,7 +6,8 @@ ghost use Rattle.board_core.specs.Legal.{Complete};
 ghost use Rattle.board_core.specs.Position.{past, IsLegal};
 ghost use Rattle.source_model.specs.Statics.{AreOutcomesOf};
 ghost use Rattle.finish_run.specs.Next.{IsIdle};
-ghost use Rattle.finish_run.specs.Finished.{DoneBelow, GoesOn, own_or_given};
+ghost use Rattle.finish_run.specs.Finished.{GoesOn, own_or_given};
+ghost use Rattle.finish_run.specs.inside.Finished.{DoneBelow};
 
 use crate::phases::{deliver_claimed, release_delivered};
 use crate::serving::carry_out_rest;

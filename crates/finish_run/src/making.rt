@@ -5,9 +5,10 @@ ghost use Rattle.source_model.specs.declared.Given.{Given as Givens};
 ghost use Rattle.patch_layout.specs.Openness.{Least};
 ghost use Rattle.region_plan.specs.Free.{LacksState};
 ghost use Rattle.board_core.specs.Position.{IsLegal};
-ghost use Rattle.finish_run.specs.Next.{IsFactory, IsTurnOf, WantsState, never};
+ghost use Rattle.finish_run.specs.Next.{IsFactory, IsTurnOf, never};
+ghost use Rattle.finish_run.specs.inside.Next.{WantsState};
 ghost use Rattle.board_core.specs.Shows.{IsMadeFor};
-ghost use Rattle.finish_run.specs.Looks.{IsStocked, ShowsTurn};
+ghost use Rattle.finish_run.specs.inside.Looks.{IsStocked, ShowsTurn};
 ghost use Rattle.finish_run.specs.Finished.{GoesOn};
 
 use crate::calls::step;

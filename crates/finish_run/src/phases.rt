@@ -4,7 +4,8 @@ ghost use Rattle.std.specs.Prelude.{◌+◌, ◌<◌, OnOk, List, length};
 ghost use Rattle.source_model.specs.declared.Given.{Given as Givens};
 ghost use Rattle.board_core.specs.Position.{past, IsLegal};
 ghost use Rattle.source_model.specs.Statics.{AreOutcomesOf};
-ghost use Rattle.finish_run.specs.Next.{IsIdle, IsPending, IsUnreleased, NoneBelow, NoneIs, never};
+ghost use Rattle.finish_run.specs.Next.{IsIdle, IsPending, IsUnreleased, NoneIs, never};
+ghost use Rattle.finish_run.specs.inside.Next.{NoneBelow};
 ghost use Rattle.finish_run.specs.Finished.{GoesOn};
 
 use crate::calls::{deliver, is_pending, is_unreleased, release};

@@ -8,8 +8,9 @@ ghost use Rattle.board_core.specs.Causes.{IsClaimable};
 ghost use Rattle.source_model.specs.Statics.{AreOutcomesOf};
 ghost use Rattle.finish_run.specs.Next.{IsIdle, IsTurnOf, never};
 ghost use Rattle.board_core.specs.Shows.{IsMadeFor};
-ghost use Rattle.finish_run.specs.Looks.{IsServed, IsStocked, ShowsTurn};
-ghost use Rattle.finish_run.specs.Finished.{GoesOn, DoneBelow};
+ghost use Rattle.finish_run.specs.inside.Looks.{IsServed, IsStocked, ShowsTurn};
+ghost use Rattle.finish_run.specs.Finished.{GoesOn};
+ghost use Rattle.finish_run.specs.inside.Finished.{DoneBelow};
 
 use crate::calls::{claim, deliver, is_undone, release};
 use crate::making::prepare;

@@ -7,7 +7,7 @@ use Rattle.pauli_product.specs.Signed.{Signed, plus, OfLength, letters_product, 
 use Rattle.pauli_product.specs.Pulls.{Turn, i_times, carry, TurnsOfLength}
 use Rattle.pauli_product.proofs.Laws.{clashes_even, clashes_odd, conj_idle, carry_commuting, carry_length, carry_real, carry_i_times, real_of_three}
 use Rattle.frame_table.specs.Images.{alone}
-use Rattle.frame_table.specs.Steps.{times_letter}
+use Rattle.frame_table.specs.inside.Steps.{times_letter}
 
 -- the first q letters, and I for each of the others
 abbrev pub prefix : ℕ → List Letter → List Letter

@@ -6,7 +6,7 @@ ghost use Rattle.pauli_product.specs.declared.Letter.TheVariants.{I};
 ghost use Rattle.pauli_product.specs.Signed.{Signed, plus, OfLength};
 ghost use Rattle.pauli_product.specs.Pulls.{Turn, carry};
 ghost use Rattle.frame_table.specs.Images.{Images, qubits, CarriesEach, After, turns_about};
-ghost use Rattle.frame_table.specs.Steps.{IsSquare, times_letter};
+ghost use Rattle.frame_table.specs.inside.Steps.{IsSquare, times_letter};
 
 #[cfg(test)]
 mod plain;
@@ -39,7 +39,7 @@ impl Model for Frame {
     ghost use Rattle.std.specs.Prelude.{◌≡◌, length, replicate};
     ghost use Rattle.pauli_product.specs.declared.Letter.TheVariants.{I};
     ghost use Rattle.pauli_product.specs.Signed.{plus, OfLength};
-    ghost use Rattle.frame_table.specs.Steps.{IsSquare};
+    ghost use Rattle.frame_table.specs.inside.Steps.{IsSquare};
 
     ghost invariant = { λ f. record {
       x : IsSquare (length f.x.items) f.x.items;

@@ -12,9 +12,11 @@ use Rattle.board_core.specs.declared.Noted.{Noted}
 use Rattle.board_core.specs.Position.{Position, with_history, IsLegal}
 use Rattle.grid_lock.specs.declared.view.View.{View}
 use Rattle.grid_lock.specs.declared.view.Gone.{Gone}
-use Rattle.grid_lock.specs.Views.{entries_by, Extends, gone}
+use Rattle.grid_lock.specs.Views.{entries_by, Extends}
+use Rattle.grid_lock.specs.inside.Views.{gone}
 use Rattle.grid_lock.specs.Turn.{tally, Stands, KeepsRule}
-use Rattle.grid_lock.specs.Passes.{Named, Known, Closes, gathered}
+use Rattle.grid_lock.specs.Passes.{NamedGrid, Known, Closes}
+use Rattle.grid_lock.specs.inside.Passes.{gathered}
 use Rattle.grid_lock.proofs.Lists.{there, tally_rest, tally_none}
 
 -- the end: pass 0 has not ended, and keeps as many passes as it split off
@@ -74,7 +76,7 @@ module _ (start : Position) where
   keeping : (P : Gone → Type 0) (ps : List Known) → All (λ (p : Known). P (gone p.view)) ps → All P (map (λ (p : Known). gone p.view) ps)
   keeping P ps all = All-map P (λ (p : Known). gone p.view) ps all
 
-  pub closes : (g : Named) (first : Known) (others : List Known) (ws : List ℕ) (xs : List Position) (id : ℕ) (v : View) (b : Position) → g.opened ≡ start → first.view.number ≡ 0 → first.view.ended ≡ false → first.view.holding ≡ false → first.view.kept ≡ []
+  pub closes : (g : NamedGrid) (first : Known) (others : List Known) (ws : List ℕ) (xs : List Position) (id : ℕ) (v : View) (b : Position) → g.opened ≡ start → first.view.number ≡ 0 → first.view.ended ≡ false → first.view.holding ≡ false → first.view.kept ≡ []
       → length others ≡ first.view.made → v ≡ gathered first.view others → Final (Seen (KeepsRule start) id v) ws xs → get_elem? xs 0 ≡ some b → Closes g first others b
   closes g first others ws xs id v b same number alive idle no_kept all is end taken =
       let w : View = gathered first.view others in

@@ -7,9 +7,10 @@ use Rattle.board_core.specs.declared.Noted.{Noted}
 use Rattle.board_core.specs.declared.Entry.{Entry}
 use Rattle.board_core.specs.Position.{Position, with_history, note}
 use Rattle.grid_lock.specs.declared.view.View.{View}
-use Rattle.grid_lock.specs.Views.{IsSound, taking, counting, adding, freeing}
-use Rattle.grid_lock.specs.Plays.{Sat, history_of}
-use Rattle.grid_lock.specs.Hands.{HasBoard, HasTaken, HasAdded, GainsEntry, board_of, with_own}
+use Rattle.grid_lock.specs.Views.{IsSound}
+use Rattle.grid_lock.specs.inside.Views.{taking, counting, adding, freeing}
+use Rattle.grid_lock.specs.inside.Plays.{Sat, history_of}
+use Rattle.grid_lock.specs.inside.Hands.{HasBoard, HasTaken, HasAdded, GainsEntry, board_of, with_own}
 use Rattle.grid_lock.specs.Passes.{Known, known, IsCalm}
 use Rattle.grid_lock.specs.Replies.{turned, Accepts, Finds}
 use Rattle.grid_lock.proofs.Lists.{entries_mine, entries_other}

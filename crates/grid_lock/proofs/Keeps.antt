@@ -16,9 +16,10 @@ use Rattle.board_core.specs.declared.Noted.{Noted}
 use Rattle.board_core.specs.Position.{Position, with_history, IsLegal}
 use Rattle.grid_lock.specs.declared.view.View.{View}
 use Rattle.grid_lock.specs.declared.view.Gone.{Gone}
-use Rattle.grid_lock.specs.Views.{entries_by, Extends, met, taking, counting, reading, adding, freeing, dealing, newcomer, gone, gathering, spent, IsSound}
+use Rattle.grid_lock.specs.Views.{entries_by, Extends, met, reading, dealing, newcomer, IsSound}
+use Rattle.grid_lock.specs.inside.Views.{taking, counting, adding, freeing, gone, gathering, spent}
 use Rattle.grid_lock.specs.Turn.{Stands, Lives, LivesOrEnded, KeepsRule, Somewhere}
-use Rattle.grid_lock.specs.Plays.{Sat, took, counted, looked, history_of, added, freed}
+use Rattle.grid_lock.specs.inside.Plays.{Sat, took, counted, looked, history_of, added, freed}
 use Rattle.grid_lock.proofs.Lists.{some_here, some_set, entries_mine, entries_other, extends_longer, any_longer, all_more, at_end, at_inside, off, on, each_set, tally_set, tally_same, tally_snoc, tally_at, tally_two}
 
 module _ (start : Position) where

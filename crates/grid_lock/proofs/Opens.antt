@@ -9,8 +9,8 @@ use Rattle.board_core.specs.Position.{Position, IsLegal}
 use Rattle.grid_lock.specs.declared.view.View.{View}
 use Rattle.grid_lock.specs.Views.{entries_by, opener}
 use Rattle.grid_lock.specs.Turn.{Lives, LivesOrEnded, KeepsRule}
-use Rattle.grid_lock.specs.Plays.{Sat}
-use Rattle.grid_lock.specs.Passes.{Rests}
+use Rattle.grid_lock.specs.inside.Plays.{Sat}
+use Rattle.grid_lock.specs.inside.Passes.{PassRests}
 use Rattle.grid_lock.proofs.Lists.{only_zero}
 
 -- the table at the start
@@ -63,15 +63,15 @@ opens_with p q boards n is one long legal zeros = let z = only_zero p.history ze
     subst (λ (l : List Position). KeepsRule q (opening (0 ∷ n ∷ []) l (opener q))) (sym one) (subst (λ (k : Position). KeepsRule k (opening (0 ∷ n ∷ []) (p ∷ []) (opener k))) (sym is) (opens p n long legal z.0 z.1))
 
 -- the first pass
-pub rests_first : (p q : Position) (m : Sat) → m ≡ (opener q, []) → q ≡ p → IsLegal p → All (λ (e : Noted). e.by ≡ 0) p.history → Rests m 0 0
+pub rests_first : (p q : Position) (m : Sat) → m ≡ (opener q, []) → q ≡ p → IsLegal p → All (λ (e : Noted). e.by ≡ 0) p.history → PassRests m 0 0
 rests_first p q m me is legal zeros =
     let z = only_zero p.history zeros in
     let first : Sat = (opener p, []) in
     let me' : m ≡ first = me ∙ ap (λ (k : Position). let r : Sat = (opener k, []) in r) is in
-    let rests : Rests first 0 0 = record {
+    let rests : PassRests first 0 0 = record {
       idle = (refl, refl, refl);
       sound = record { legal = legal; own = z.0; later = λ _ n more. z.1 n more };
       number_is = refl;
       made_is = refl;
       kept_is = refl;
-    } in subst (λ (r : Sat). Rests r 0 0) (sym me') rests
+    } in subst (λ (r : Sat). PassRests r 0 0) (sym me') rests

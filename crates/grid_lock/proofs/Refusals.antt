@@ -10,8 +10,8 @@ use Rattle.board_core.specs.declared.board.ClaimRefused.{ClaimRefused}
 use Rattle.board_core.specs.Legal.{Allowed}
 use Rattle.board_core.specs.Position.{Position, past}
 use Rattle.board_core.specs.Causes.{ClaimRefusedBecause, claim_of}
-use Rattle.grid_lock.specs.Plays.{Sat}
-use Rattle.grid_lock.specs.Hands.{HasBoard, board_of}
+use Rattle.grid_lock.specs.inside.Plays.{Sat}
+use Rattle.grid_lock.specs.inside.Hands.{HasBoard, board_of}
 use Rattle.grid_lock.specs.Answers.{RefusesClaim}
 
 abbrev first : Position → List (ℕ × Position) → Position

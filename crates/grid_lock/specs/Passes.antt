@@ -1,16 +1,14 @@
 -- Grids and passes as clauses see them.
-use Rattle.std.specs.Prelude.{◌≡◌, ◌≢◌, false, ℕ, ◌≤◌, List, [], ◌++◌, map, length}
+use Rattle.std.specs.Prelude.{◌≡◌, ◌≢◌, false, ℕ, ◌≤◌, List, [], length}
 use Rattle.std.specs.List.{All}
 use Rattle.atomic_table.specs.Seated.{TableId}
 use Rattle.board_core.specs.declared.Noted.{Noted}
 use Rattle.board_core.specs.Position.{Position, with_history, IsLegal}
 use Rattle.grid_lock.specs.declared.view.View.{View}
-use Rattle.grid_lock.specs.Views.{entries_by, Extends, IsSound, gone}
-use Rattle.grid_lock.specs.Plays.{Sat}
-use Rattle.grid_lock.specs.Hands.{IsIdle}
+use Rattle.grid_lock.specs.Views.{entries_by, Extends}
 
 -- which grid it is, and the board that it was opened with
-pub record Named : Type 0 where
+pub record NamedGrid : Type 0 where
   pub id : TableId
   pub opened : Position
 
@@ -19,19 +17,12 @@ pub record Known : Type 0 where
   pub grid : TableId
   pub view : View
 
-abbrev pub named : TableId → Position → Named
-named id opened = record { id = id; opened = opened }
-
 abbrev pub known : TableId → View → Known
 known grid view = record { grid = grid; view = view }
 
--- a grid's table has two words, the turn and the length, and one slot
-abbrev pub IsGridTable : TableId → Type 0
-IsGridTable id = (id.words ≡ 2) × (id.slots ≡ 1)
-
 -- the pass belongs to the grid
-abbrev pub IsOf : Named → Known → Type 0
-IsOf g p = (p.grid ≡ g.id) × (p.view.opened ≡ g.opened)
+abbrev pub IsPassOf : NamedGrid → Known → Type 0
+IsPassOf g p = (p.grid ≡ g.id) × (p.view.opened ≡ g.opened)
 
 -- q is still the pass p: that of this grid with this number, which split off as many
 abbrev pub IsSamePass : Known → Known → Type 0
@@ -45,14 +36,6 @@ pub record IsCalm (p : Known) : Type 0 where
   pub legal : IsLegal (with_history p.view.opened p.view.seen)
   pub own : entries_by p.view.number p.view.seen ≡ p.view.mine
 
--- a pass between two calls, with its number and the number of passes that it split off
-pub record Rests (m : Sat) (number made : ℕ) : Type 0 where
-  pub idle : IsIdle m
-  pub sound : IsSound m.0
-  pub number_is : number ≡ m.0.number
-  pub made_is : made ≡ m.0.made
-  pub kept_is : m.0.kept ≡ []
-
 -- the history extends all that the pass has seen, has as many entries as it was told or more, and those under its number
 -- are its own, each once
 pub record StandsIn (log : List Noted) (v : View) : Type 0 where
@@ -60,12 +43,8 @@ pub record StandsIn (log : List Noted) (v : View) : Type 0 where
   pub mine : entries_by v.number log ≡ v.mine
   pub read : v.read ≤ length log
 
--- pass 0 with the passes that were handed in
-abbrev pub gathered : View → List Known → View
-gathered v ps = record v { kept = v.kept ++ map (λ (p : Known). gone p.view) ps }
-
 -- the board at the end: its history is legal, all passes stand in it, and no entry has another number
-pub record Closes (g : Named) (first : Known) (others : List Known) (p : Position) : Type 0 where
+pub record Closes (g : NamedGrid) (first : Known) (others : List Known) (p : Position) : Type 0 where
   pub same : p ≡ with_history g.opened p.history
   pub legal : IsLegal p
   pub leads : StandsIn p.history first.view

@@ -1,10 +1,9 @@
 -- What a pass knows, and when it is sound by itself.
-use Rattle.std.specs.Prelude.{◌≡◌, ℕ, ◌+◌, ◌<◌, ◌≤◌, true, false, ◌==◌, List, [], ◌∷◌, ◌++◌, drop, length}
+use Rattle.std.specs.Prelude.{◌≡◌, ℕ, ◌+◌, ◌<◌, ◌≤◌, false, ◌==◌, List, [], ◌++◌, length}
 use Rattle.std.specs.List.{filter}
 use Rattle.board_core.specs.declared.Noted.{Noted}
 use Rattle.board_core.specs.Position.{Position, with_history, IsLegal}
 use Rattle.grid_lock.specs.declared.view.View.{View}
-use Rattle.grid_lock.specs.declared.view.Gone.{Gone}
 
 -- the entries of one pass, in order
 abbrev pub entries_by : ℕ → List Noted → List Noted
@@ -41,24 +40,9 @@ opener p = record {
 abbrev pub met : View → View
 met v = record v { met = v.met + 1 }
 
--- it took the turn, and with it saw the board's history
-abbrev pub taking : View → List Noted → View
-taking v log = record v { seen = log; holding = true }
-
--- it loaded the length while it holds the turn
-abbrev pub counting : View → View
-counting v = record v { loads = v.loads + 1; turns = v.turns + 1 }
-
 -- it loaded the length n and holds no turn
 abbrev pub reading : View → ℕ → View
 reading v n = record v { loads = v.loads + 1; read = n }
-
--- the history became log, by an entry of its own
-abbrev pub adding : View → List Noted → View
-adding v log = record v { seen = log; mine = v.mine ++ drop (length v.seen) log }
-
-abbrev pub freeing : View → View
-freeing v = record v { holding = false }
 
 -- pass 0 after a split, and the new pass
 abbrev pub dealing : View → View
@@ -77,37 +61,6 @@ newcomer v = record {
   holding = false;
   made = 0;
   ended = false;
-  kept = [];
-}
-
--- what pass 0 keeps of a pass that ended
-abbrev pub gone : View → Gone
-gone w = record { number = w.number; seen = w.seen; mine = w.mine; read = w.read }
-
-abbrev pub gathering : View → View → View
-gathering v w = record v { kept = v.kept ++ gone w ∷ [] }
-
--- a board of nothing
-abbrev pub no_board : Position
-no_board = record {
-  job = record { products = []; grid = record { rows = 0; columns = 0; sites = [] }; fails = [] };
-  history = [];
-}
-
--- the view of a seat that ended
-abbrev pub spent : View
-spent = record {
-  number = 0;
-  opened = no_board;
-  seen = [];
-  mine = [];
-  met = 0;
-  loads = 0;
-  turns = 0;
-  read = 0;
-  holding = false;
-  made = 0;
-  ended = true;
   kept = [];
 }
 

@@ -5,7 +5,8 @@ ghost use Rattle.std.specs.List.{All};
 ghost use Rattle.board_core.specs.declared.Noted.{Noted as Entries};
 ghost use Rattle.board_core.specs.Shows.{IsMadeFor};
 ghost use Rattle.grid_lock.specs.Views.{opener, dealing, newcomer};
-ghost use Rattle.grid_lock.specs.Passes.{Known, known, IsOf, IsSamePass, IsCalm, Closes, gathered};
+ghost use Rattle.grid_lock.specs.Passes.{Known, known, IsPassOf, IsSamePass, IsCalm, Closes};
+ghost use Rattle.grid_lock.specs.inside.Passes.{gathered};
 ghost use Rattle.grid_lock.specs.Replies.{Claims, Delivers, Releases, Steps, Looks, Measures, AnswersWaits};
 
 use crate::plays::{Deal, Gather, OneHistory};
@@ -33,9 +34,10 @@ pub struct Grid {
 }
 
 impl Model for Grid {
-    ghost use Rattle.grid_lock.specs.Passes.{Named, IsGridTable, named};
+    ghost use Rattle.grid_lock.specs.Passes.{NamedGrid};
+    ghost use Rattle.grid_lock.specs.inside.Passes.{IsGridTable, named};
 
-    ghost Value = { Named };
+    ghost Value = { NamedGrid };
 
     ghost view = { λ g. named g.table.shared.table_id g.table.shared.key.value };
 
@@ -51,13 +53,14 @@ pub struct Pass {
 }
 
 impl Model for Pass {
-    ghost use Rattle.grid_lock.specs.Passes.{Known, Rests};
+    ghost use Rattle.grid_lock.specs.Passes.{Known};
+    ghost use Rattle.grid_lock.specs.inside.Passes.{PassRests};
 
     ghost Value = { Known };
 
     ghost view = { λ p. record { grid = p.seat.table_id; view = p.seat.me.0 } };
 
-    ghost invariant = { λ p. Rests p.seat.me p.number p.made };
+    ghost invariant = { λ p. PassRests p.seat.me p.number p.made };
 }
 
 /// There was no memory. The board comes back.
@@ -135,7 +138,7 @@ impl Grid {
 
     /// A new pass, with the next number. It has seen what pass 0 has seen. There is always memory.
     pub fn split(&self, first: &mut Pass) -> Result<Pass, Memory>
-        requires grid { IsOf self.now first.old }
+        requires grid { IsPassOf self.now first.old }
         requires first { first.old.view.number ≡ 0 }
         requires few { first.old.view.made < 63 }
         ensures ok { IsOk result }
@@ -154,9 +157,9 @@ impl Grid {
     /// The board, once all passes are handed in. The history begins with what each pass has seen, and each pass's
     /// entries stand in it, once and under its number.
     pub fn close(self, first: Pass, others: Vec<Pass>) -> Result<Board, CloseRefused>
-        requires grid { IsOf self first }
+        requires grid { IsPassOf self first }
         requires first { first.view.number ≡ 0 }
-        requires others { All (IsOf self) others.items }
+        requires others { All (IsPassOf self) others.items }
         ensures ok { IsOk result ↔ (length others.items ≡ first.view.made) }
         ensures closed { IfOk result (λ board. Closes self first others.items board) }
         ensures split { IfErr result (λ r. r.split ≡ first.view.made) }
@@ -186,8 +189,8 @@ impl Grid {
 
     /// The history's length, which is no less than what this pass saw and read.
     pub fn length(&self, pass: &mut Pass) -> u32
-        requires grid { IsOf self.now pass.old }
-        ensures grid { IsOf self.now pass.new }
+        requires grid { IsPassOf self.now pass.old }
+        ensures grid { IsPassOf self.now pass.new }
         ensures same { IsSamePass pass.old pass.new }
         ensures told { Measures pass.old.view result pass.new.view }
         ensures rests { IsCalm pass.new }
@@ -197,8 +200,8 @@ impl Grid {
 
     /// What a product waits on. Nothing is copied, so that this is cheaper than a look.
     pub fn try_waits(&self, pass: &mut Pass, p: u32) -> TryWaits
-        requires grid { IsOf self.now pass.old }
-        ensures grid { IsOf self.now pass.new }
+        requires grid { IsPassOf self.now pass.old }
+        ensures grid { IsPassOf self.now pass.new }
         ensures same { IsSamePass pass.old pass.new }
         ensures told { AnswersWaits pass.old.view p result pass.new.view }
         ensures rests { IsCalm pass.new }
@@ -221,9 +224,9 @@ impl Grid {
     /// Fills a look with what the board shows of a product. The look was made for the layout of the opened board, and
     /// for the number of qubits of its products, and still is.
     pub fn try_look(&self, pass: &mut Pass, p: u32, look: &mut Look) -> Result<(), TryLook>
-        requires grid { IsOf self.now pass.old }
+        requires grid { IsPassOf self.now pass.old }
         requires made { IsMadeFor self.now.opened look.old }
-        ensures grid { IsOf self.now pass.new }
+        ensures grid { IsPassOf self.now pass.new }
         ensures same { IsSamePass pass.old pass.new }
         ensures told { Looks pass.old.view p look.old result pass.new.view look.new }
         ensures rests { IsCalm pass.new }
@@ -250,8 +253,8 @@ impl Grid {
         plan: Plan,
         node: Node<Noted>,
     ) -> Result<Claimed, TryClaim>
-        requires grid { IsOf self.now pass.old }
-        ensures grid { IsOf self.now pass.new }
+        requires grid { IsPassOf self.now pass.old }
+        ensures grid { IsPassOf self.now pass.new }
         ensures same { IsSamePass pass.old pass.new }
         ensures told { Claims pass.old.view plan node result pass.new.view }
         ensures rests { IsCalm pass.new }
@@ -280,8 +283,8 @@ impl Grid {
         given: Given,
         node: Node<Noted>,
     ) -> Result<u32, TryDeliver>
-        requires grid { IsOf self.now pass.old }
-        ensures grid { IsOf self.now pass.new }
+        requires grid { IsPassOf self.now pass.old }
+        ensures grid { IsPassOf self.now pass.new }
         ensures same { IsSamePass pass.old pass.new }
         ensures told { Delivers pass.old.view p given node result pass.new.view }
         ensures rests { IsCalm pass.new }
@@ -304,8 +307,8 @@ impl Grid {
 
     /// Gives a delivered product's cells back, and answers the entry's place.
     pub fn try_release(&self, pass: &mut Pass, p: u32, node: Node<Noted>) -> Result<u32, TryRelease>
-        requires grid { IsOf self.now pass.old }
-        ensures grid { IsOf self.now pass.new }
+        requires grid { IsPassOf self.now pass.old }
+        ensures grid { IsPassOf self.now pass.new }
         ensures same { IsSamePass pass.old pass.new }
         ensures told { Releases pass.old.view p node result pass.new.view }
         ensures rests { IsCalm pass.new }
@@ -333,8 +336,8 @@ impl Grid {
         f: u32,
         node: Node<Noted>,
     ) -> Result<(u32, Stepped), TryStep>
-        requires grid { IsOf self.now pass.old }
-        ensures grid { IsOf self.now pass.new }
+        requires grid { IsPassOf self.now pass.old }
+        ensures grid { IsPassOf self.now pass.new }
         ensures same { IsSamePass pass.old pass.new }
         ensures told { Steps pass.old.view f node result pass.new.view }
         ensures rests { IsCalm pass.new }

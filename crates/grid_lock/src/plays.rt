@@ -1,8 +1,9 @@
 //! The rule of the grid's table, and the names of its steps.
 
-ghost use Rattle.grid_lock.specs.Views.{opener, dealing, newcomer, gathering, spent};
+ghost use Rattle.grid_lock.specs.Views.{opener, dealing, newcomer};
+ghost use Rattle.grid_lock.specs.inside.Views.{gathering, spent};
 ghost use Rattle.grid_lock.specs.Turn.{KeepsRule};
-ghost use Rattle.grid_lock.specs.Plays.{took, counted, looked, added, freed};
+ghost use Rattle.grid_lock.specs.inside.Plays.{took, counted, looked, added, freed};
 
 use crate::view::View;
 use atomic_table::{Join, Play, Split, TableRule};

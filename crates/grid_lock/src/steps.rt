@@ -5,8 +5,9 @@ ghost use Rattle.board_core.specs.declared.Entry.TheVariants.{Release};
 ghost use Rattle.board_core.specs.declared.Entry.TheVariants as entry;
 ghost use Rattle.board_core.specs.Causes.{claim_of};
 ghost use Rattle.board_core.specs.Shows.{IsMadeFor};
-ghost use Rattle.grid_lock.specs.Views.{met, reading, freeing, IsSound};
-ghost use Rattle.grid_lock.specs.Hands.{IsIdle, HasBoard, HasTaken, HasAdded, GainsEntry, GainsOutcome, board_of, with_own};
+ghost use Rattle.grid_lock.specs.Views.{met, reading, IsSound};
+ghost use Rattle.grid_lock.specs.inside.Views.{freeing};
+ghost use Rattle.grid_lock.specs.inside.Hands.{IsIdle, HasBoard, HasTaken, HasAdded, GainsEntry, GainsOutcome, board_of, with_own};
 ghost use Rattle.grid_lock.specs.Answers.{AcceptsClaim, RefusesClaim, RefusesOutcome, AcceptsRelease, RefusesRelease, AcceptsStep, RefusesStep, ShowsProduct, ShowsNothing, WaitsFor, HasNoProduct};
 
 use crate::plays::{Add, Count, Free, Look, OneHistory, Take};

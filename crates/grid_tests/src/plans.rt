@@ -1,7 +1,7 @@
 //! What is answered for looks at small layouts.
 
 ghost use Rattle.std.specs.Prelude.{◌≡◌, ℕ, ◌≤◌, length, IsTrue};
-ghost use Rattle.region_plan.specs.Free.{HasLetter};
+ghost use Rattle.pauli_product.specs.Signed.{HasLetter};
 
 use crate::layouts::{layout_b, layout_of, row_for, row_two};
 use patch_base::Memory;

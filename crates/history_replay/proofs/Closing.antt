@@ -15,8 +15,8 @@ use Rattle.source_model.specs.SourceRun.{bit_after}
 use Rattle.board_core.specs.Legal.{Complete}
 use Rattle.board_core.specs.Position.{Position, past}
 use Rattle.schedule_text.specs.Text.{digits, bits_line, bits_text, bit_in, ended}
-use Rattle.history_replay.specs.Lines.{StopsAt}
-use Rattle.history_replay.specs.Joining.{Closes, Fails}
+use Rattle.history_replay.specs.inside.Lines.{StopsAt}
+use Rattle.history_replay.specs.inside.Joining.{Closes, Fails}
 
 take_more : {X : Type 0} (xs : List X) (i : ℕ) (x : X) → slice_get xs i ≡ Some x → take (i + 1) xs ≡ take i xs ++ x ∷ []
 take_more [] i x e = absurd (none-some x e)

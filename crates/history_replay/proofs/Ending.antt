@@ -15,8 +15,8 @@ use Rattle.board_core.proofs.LegalOrder.{at_end}
 use Rattle.schedule_text.specs.Text.{Version, header_line, entry_line, bits_line, Prints, lines_of, text_of, ended}
 use Rattle.schedule_text.specs.Lines.{IsEntryLine, StandsIn}
 use Rattle.schedule_text.proofs.OneText.{Free, AllFree, free_header, free_bits_line, free_bits_lines, all_free_append, free_entry_lines}
-use Rattle.history_replay.specs.Replay.{Question, AreEntryLines, MayFollow, Splits, GoodUpTo, IsTextOf, FirstBad}
-use Rattle.history_replay.specs.Joining.{AgreeAll}
+use Rattle.history_replay.specs.Replay.{Question, AreEntryLines, MayFollow, Splits, GoodUpTo, IsTextOf, FirstBadLine}
+use Rattle.history_replay.specs.inside.Joining.{AgreeAll}
 use Rattle.history_replay.proofs.Splitting.{splits_one}
 use Rattle.history_replay.proofs.Reading.{Stands, Entry_next, Bits_next, what_follows, good_up_to, reads_one, reads_of, length_take}
 
@@ -134,7 +134,7 @@ whole_splits : (q : Question) (text : List ℕ) (v : Version) (h : List Noted) �
 whole_splits q text v h names is = (is.are ∙ sym (append-nil (text_of v h q.registers q.bit)), lines_free v h q.registers q.bit is.stands names, all_none (λ c. c ≢ 10))
 
 -- no text is both
-pub legal_or_bad : (q : Question) (text : List ℕ) (n : ℕ) (v : Version) (h : List Noted) → All (λ r. IsOneLine r.name) q.registers → AgreeAll q.table h → IsTextOf q text v h → FirstBad q text n → ⊥
+pub legal_or_bad : (q : Question) (text : List ℕ) (n : ℕ) (v : Version) (h : List Noted) → All (λ r. IsOneLine r.name) q.registers → AgreeAll q.table h → IsTextOf q text v h → FirstBadLine q text n → ⊥
 legal_or_bad q text n v h names agree is (lines, rest, split, inl (k, line, e, at, good, bad)) =
     let same = splits_one text (lines_of v h q.registers q.bit) lines [] rest (whole_splits q text v h names is) split in
     let P : List (List ℕ) → Type 0 = λ ls. slice_get ls k ≡ Some line → MayFollow q (take k ls) line in
@@ -182,11 +182,11 @@ not_whole q text rest v w h g k lines names s stops split is =
     let P : List Noted → Type 0 = λ x. Complete q.job (entries x) q.table in
     stops.end (omega (arith, reads.count, length_take q.registers k s.few, ap length (take_all q.registers))) (subst P reads.history is.complete) none
 
-pub bad_behind : (q : Question) (text rest : List ℕ) (v : Version) (h : List Noted) (k : ℕ) (lines : List (List ℕ)) → All (λ r. IsOneLine r.name) q.registers → Stands q v h k lines → text ≡ flat_map ended lines ++ rest → Stops q v h k rest → FirstBad q text (length h + 2 + k)
+pub bad_behind : (q : Question) (text rest : List ℕ) (v : Version) (h : List Noted) (k : ℕ) (lines : List (List ℕ)) → All (λ r. IsOneLine r.name) q.registers → Stands q v h k lines → text ≡ flat_map ended lines ++ rest → Stops q v h k rest → FirstBadLine q text (length h + 2 + k)
 bad_behind q text rest v h k lines names s e stops =
     let (more, tail, split) = split_text rest in go more tail split
   where
-    go : (more : List (List ℕ)) (tail : List ℕ) → Splits rest more tail → FirstBad q text (length h + 2 + k)
+    go : (more : List (List ℕ)) (tail : List ℕ) → Splits rest more tail → FirstBadLine q text (length h + 2 + k)
     go [] tail split =
         let P : List (List ℕ) → Type 0 = λ ls. Splits text ls tail in
         let here : Splits text lines tail = subst P (append-nil lines) (splits_behind text rest tail lines [] e (stands_free q v h k lines names s) split) in

@@ -7,7 +7,7 @@ use Rattle.schedule_text.proofs.OneText.{cut_at, free_name}
 use Rattle.std.proofs.Math.Seq.{take-append_seam, drop-append_seam}
 use Rattle.source_model.specs.Circuits.{IsOneLine}
 use Rattle.patch_base.specs.Texts.{line_end}
-use Rattle.history_replay.specs.Lines.{IsEnded}
+use Rattle.history_replay.specs.inside.Lines.{IsEnded}
 
 abbrev is_feed : ℕ → Bool
 is_feed b = b == 10

@@ -17,16 +17,16 @@ use Rattle.patch_layout.specs.Region.{Fit}
 use Rattle.board_core.specs.declared.Noted.{Noted}
 use Rattle.magic_pool.specs.Recount.{ready_of, first_of_list}
 use Rattle.board_core.specs.History.{History, entries, steps, taken_states}
-use Rattle.board_core.specs.Legal.{Job, Legal, Allowed, ClaimAllowed, TakesState}
+use Rattle.board_core.specs.Legal.{BoardJob, Legal, Allowed, ClaimAllowed, TakesState}
 use Rattle.board_core.proofs.Going.{legal_next, legal_empty}
 use Rattle.board_core.proofs.KeptLegal.{entries_push}
 use Rattle.schedule_text.specs.Text.{Version, ended}
 use Rattle.schedule_text.specs.Lines.{IsEntryLine}
 use Rattle.history_replay.specs.Replay.{Agrees, AreEntryLines}
-use Rattle.history_replay.specs.Joining.{CertifiedAs, AgreeAll, Begins}
+use Rattle.history_replay.specs.inside.Joining.{CertifiedAs, AgreeAll, Begins}
 
 -- a claim takes one state
-state_of : (j : Job) (h : History) (k : Kind) (through s t : Option ℕ) → TakesState j h k through s → TakesState j h k through t → s ≡ t
+state_of : (j : BoardJob) (h : History) (k : Kind) (through s t : Option ℕ) → TakesState j h k through s → TakesState j h k through t → s ≡ t
 state_of j h kind.Rotation through s t (f, x, at, is, least) (g, y, at', is', least') =
     let same : f ≡ g = same_Some f g (sym at ∙ at') in
     let P : ℕ → Type 0 = λ m. first_of_list (ready_of j.fails (steps h) (taken_states h) m) ≡ Some x in
@@ -34,7 +34,7 @@ state_of j h kind.Rotation through s t (f, x, at, is, least) (g, y, at', is', le
 state_of j h (kind.Measure bit) through s t (none, is) (none', is') = is ∙ sym is'
 state_of j h (kind.Settle first size value) through s t a b = absurd a
 
-pub one_state : (j : Job) (h : History) (p : ℕ) (axis : Signed) (through s t : Option ℕ) (cells : List ℕ) → ClaimAllowed j h p axis through s cells → ClaimAllowed j h p axis through t cells → s ≡ t
+pub one_state : (j : BoardJob) (h : History) (p : ℕ) (axis : Signed) (through s t : Option ℕ) (cells : List ℕ) → ClaimAllowed j h p axis through s cells → ClaimAllowed j h p axis through t cells → s ≡ t
 one_state j h p axis through s t cells a b =
     let (x, at, takes) = a.product in
     let (y, at', takes') = b.product in
@@ -51,7 +51,7 @@ certified_as g plan axis port cells of same a p c is =
     subst S (sym p) (subst R (sym a) (subst Q (sym c) (subst P same is)))
 
 -- ---- entry lines from a place on
-pub begins_here : (j : Job) (table : List Given) (v : Version) (text : List ℕ) (h : List Noted) → h ≡ [] → Begins j table v text h text
+pub begins_here : (j : BoardJob) (table : List Given) (v : Version) (text : List ℕ) (h : List Noted) → h ≡ [] → Begins j table v text h text
 begins_here j table v text h none =
     let P : List Noted → Type 0 = λ x. AreEntryLines v [] x in
     let Q : List Noted → Type 0 = λ x. Legal j (entries x) in
@@ -74,7 +74,7 @@ single : (table : List Given) (n : Noted) → Agrees table n.entry → AgreeAll 
 single table n agrees zero d l = agrees
 single table n agrees (suc k) d l = absurd (omega (arith, l))
 
-pub begins_more : (j : Job) (table : List Given) (v : Version) (text rest more line : List ℕ) (h new : List Noted) (n : Noted) → Begins j table v text h rest → rest ≡ line ++ 10 ∷ more → IsEntryLine v line n → Allowed j (entries h) n.entry → Agrees table n.entry → new ≡ h ++ n ∷ [] → Begins j table v text new more
+pub begins_more : (j : BoardJob) (table : List Given) (v : Version) (text rest more line : List ℕ) (h new : List Noted) (n : Noted) → Begins j table v text h rest → rest ≡ line ++ 10 ∷ more → IsEntryLine v line n → Allowed j (entries h) n.entry → Agrees table n.entry → new ≡ h ++ n ∷ [] → Begins j table v text new more
 begins_more j table v text rest more line h new n b e is allowed agrees grows =
     let P : List Noted → Type 0 = λ x. AreEntryLines v (b.said ++ line ∷ []) x in
     let Q : List Noted → Type 0 = λ x. Legal j (entries x) in

@@ -12,7 +12,7 @@ use Rattle.board_core.specs.declared.Noted.{Noted}
 use Rattle.board_core.specs.declared.Entry.{Entry}
 use Rattle.board_core.specs.declared.Entry.TheVariants.{Claim, Deliver, Release, Step, Settle}
 use Rattle.board_core.specs.History.{History, entries, delivered, done_place, is_done_by}
-use Rattle.board_core.specs.Legal.{Job, Legal, Complete, CompleteAt, IsKind}
+use Rattle.board_core.specs.Legal.{BoardJob, Legal, Complete, CompleteAt, IsKind}
 use Rattle.board_core.specs.Position.{Position, past}
 use Rattle.board_core.proofs.Tables.{entry_of}
 use Rattle.board_core.proofs.Places.{place_cons, delivered-append}
@@ -20,7 +20,7 @@ use Rattle.board_core.proofs.Releasing.{undone_undelivered}
 use Rattle.board_core.proofs.LegalOrder.{delivered_at}
 use Rattle.board_core.proofs.Standings.{found_at}
 use Rattle.history_replay.specs.Replay.{Agrees}
-use Rattle.history_replay.specs.Joining.{AgreeAll, IsOver, AllOver}
+use Rattle.history_replay.specs.inside.Joining.{AgreeAll, IsOver, AllOver}
 
 drop_at : {X : Type 0} (xs : List X) (i : ℕ) (x : X) → slice_get xs i ≡ Some x → drop i xs ≡ x ∷ drop (suc i) xs
 drop_at [] i x e = absurd (none-some x e)
@@ -41,7 +41,7 @@ deliver_first h i p g at undone =
     ∙ (delivered-append (take i h) (drop i h) p
     ∙ rw (undone_undelivered (take i h) p undone, drop_at h i (Deliver p g) at) (deliver_head p g (drop (suc i) h)))
 
-delivered_now : (j : Job) (h : History) (i p : ℕ) (g : Given) → Legal j h → slice_get h i ≡ Some (Deliver p g) → delivered h p ≡ Some g
+delivered_now : (j : BoardJob) (h : History) (i p : ℕ) (g : Given) → Legal j h → slice_get h i ≡ Some (Deliver p g) → delivered h p ≡ Some g
 delivered_now j h i p g legal at = deliver_first h i p g at (legal i (Deliver p g) at).1
 
 -- ---- from complete to agreeing
@@ -50,7 +50,7 @@ same_outcome h p g x kind.Rotation i c e = same_Some g x (sym c.1 ∙ e)
 same_outcome h p g x (kind.Measure bit) i c e = same_Some g x (sym c.1 ∙ e)
 same_outcome h p g x (kind.Settle first size value) i c e = absurd i
 
-agrees_one : (j : Job) (table : List Given) (h : History) (i : ℕ) (e : Entry) → length table ≡ length j.products → Legal j h → Complete j h table → slice_get h i ≡ Some e → Agrees table e
+agrees_one : (j : BoardJob) (table : List Given) (h : History) (i : ℕ) (e : Entry) → length table ≡ length j.products → Legal j h → Complete j h table → slice_get h i ≡ Some e → Agrees table e
 agrees_one j table h i (Claim p axis port state cells) l legal complete at = tt
 agrees_one j table h i (Release p) l legal complete at = tt
 agrees_one j table h i (Step f) l legal complete at = tt
@@ -71,7 +71,7 @@ entry_at [] i n e = absurd (none-some n e)
 entry_at (m ∷ h) zero n e = ap (λ x. Some x.entry) (same_Some m n e)
 entry_at (m ∷ h) (suc i) n e = entry_at h i n e
 
-pub complete_agrees : (j : Job) (table : List Given) (h : List Noted) → length table ≡ length j.products → Legal j (entries h) → Complete j (entries h) table → AgreeAll table h
+pub complete_agrees : (j : BoardJob) (table : List Given) (h : List Noted) → length table ≡ length j.products → Legal j (entries h) → Complete j (entries h) table → AgreeAll table h
 complete_agrees j table h l legal complete =
     all_by_place (λ n. Agrees table n.entry) h (λ i n e. agrees_one j table (entries h) i n.entry l legal complete (entry_at h i n e))
 
@@ -104,7 +104,7 @@ agree_at table (n ∷ h) zero e f at = let P : Entry → Type 0 = λ x. Agrees t
 agree_at table (n ∷ h) (suc i) e f at = agree_at table h i e (λ k d l. f (suc k) d (omega (arith, l))) at
 
 -- what is done and no settled product is delivered, with the table's outcome
-delivers : (j : Job) (table : List Given) (h : List Noted) (p k : ℕ) (s : Static) (g : Given) (e : Entry) → Legal j (entries h) → AgreeAll table h → slice_get j.products p ≡ Some s → slice_get table p ≡ Some g → ((first size value : ℕ) → s.kind ≡ kind.Settle first size value → ⊥) → slice_get (entries h) k ≡ Some e → is_done_by p e ≡ true → delivered (entries h) p ≡ Some g
+delivers : (j : BoardJob) (table : List Given) (h : List Noted) (p k : ℕ) (s : Static) (g : Given) (e : Entry) → Legal j (entries h) → AgreeAll table h → slice_get j.products p ≡ Some s → slice_get table p ≡ Some g → ((first size value : ℕ) → s.kind ≡ kind.Settle first size value → ⊥) → slice_get (entries h) k ≡ Some e → is_done_by p e ≡ true → delivered (entries h) p ≡ Some g
 delivers j table h p k s g (Claim q axis port state cells) legal agree at outcome region there t = absurd (true≢false (sym t))
 delivers j table h p k s g (Release q) legal agree at outcome region there t = absurd (true≢false (sym t))
 delivers j table h p k s g (Step f) legal agree at outcome region there t = absurd (true≢false (sym t))

@@ -18,7 +18,7 @@ use Rattle.schedule_text.specs.Text.{Version, one, two, header_line, entry_words
 use Rattle.schedule_text.specs.Lines.{IsEntryLine}
 use Rattle.schedule_text.proofs.OneText.{Free, free_append, first, line_one, some_words}
 use Rattle.history_replay.specs.Replay.{Question, Agrees, AreEntryLines, Reads, MayFollow}
-use Rattle.history_replay.specs.Joining.{AgreeAll}
+use Rattle.history_replay.specs.inside.Joining.{AgreeAll}
 
 -- lines that are read: each of them may stand where it stands
 pub record Stands (q : Question) (v : Version) (h : List Noted) (k : ℕ) (lines : List (List ℕ)) : Type 0 where

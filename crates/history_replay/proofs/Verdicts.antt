@@ -15,10 +15,10 @@ use Rattle.schedule_text.specs.Lines.{IsEntryLine}
 use Rattle.schedule_text.proofs.OneText.{line_one}
 use Rattle.history_replay.specs.declared.Verdict.{Verdict}
 use Rattle.history_replay.specs.declared.Verdict.TheVariants as verdict
-use Rattle.history_replay.specs.Replay.{Question, MayFollow, Splits, IsTextOf, FirstBad, LegalOrBad, OneFirstBad}
+use Rattle.history_replay.specs.Replay.{Question, MayFollow, Splits, IsTextOf, FirstBadLine, LegalOrBad, OneFirstBad}
 use Rattle.history_replay.specs.Answers.{IsVerdict}
-use Rattle.history_replay.specs.Lines.{StopsAt}
-use Rattle.history_replay.specs.Joining.{Begins, BeginsEntry, MayJoin}
+use Rattle.history_replay.specs.inside.Lines.{StopsAt}
+use Rattle.history_replay.specs.inside.Joining.{Begins, BeginsEntry, MayJoin}
 use Rattle.history_replay.proofs.Feeds.{line_cut}
 use Rattle.history_replay.proofs.Reading.{Stands, Entry_next, Bits_next, bits_no_entry}
 use Rattle.history_replay.proofs.Ending.{split_text, Stops, bad_behind, whole, entry_one_line, bits_one_line}
@@ -29,10 +29,10 @@ bad_first q text line more e none (inl (start, (v, is))) = none v more (e ∙ ap
 bad_first q text line more e none (inr (inl (v, h, n, (said, a, f), is, legal, agrees))) = cc
 bad_first q text line more e none (inr (inr (v, h, k, r, (said, a, f), complete, at, is))) = cc
 
-pub bad_header : (q : Question) (text : List ℕ) → ((v : Version) (rest : List ℕ) → text ≡ header_line v ++ 10 ∷ rest → ⊥) → FirstBad q text 1
+pub bad_header : (q : Question) (text : List ℕ) → ((v : Version) (rest : List ℕ) → text ≡ header_line v ++ 10 ∷ rest → ⊥) → FirstBadLine q text 1
 bad_header q text none = let (lines, tail, split) = split_text text in go lines tail split
   where
-    go : (lines : List (List ℕ)) (tail : List ℕ) → Splits text lines tail → FirstBad q text 1
+    go : (lines : List (List ℕ)) (tail : List ℕ) → Splits text lines tail → FirstBadLine q text 1
     go [] tail split = (
       [],
       tail,
@@ -84,10 +84,10 @@ abbrev pub Named : Question → Type 0
 Named q = All (λ r. IsOneLine r.name) q.registers
 
 -- an entry line that may not join
-pub bad_entry : (q : Question) (v : Version) (text body rest : List ℕ) (h : List Noted) (n : Noted) (line : ℕ) → Named q → text ≡ header_line v ++ 10 ∷ body → Begins q.job q.table v body h rest → BeginsEntry v rest n → (MayJoin q.table (record { job = q.job; history = h }) n → ⊥) → line ≡ length h + 2 → FirstBad q text line
+pub bad_entry : (q : Question) (v : Version) (text body rest : List ℕ) (h : List Noted) (n : Noted) (line : ℕ) → Named q → text ≡ header_line v ++ 10 ∷ body → Begins q.job q.table v body h rest → BeginsEntry v rest n → (MayJoin q.table (record { job = q.job; history = h }) n → ⊥) → line ≡ length h + 2 → FirstBadLine q text line
 bad_entry q v text body rest h n line names e b (own, tail, f, is) barred number =
     let read = read_so_far q v text body rest rest h 0 e b refl (λ l. absurd (omega (arith, l))) (omega arith) in
-    let P : ℕ → Type 0 = λ m. FirstBad q text m in
+    let P : ℕ → Type 0 = λ m. FirstBadLine q text m in
     let stops : Stops q v h 0 rest = record {
       entry = λ l more g next. joins l more g next;
       bits = λ l more g next. no_bits l more g next;
@@ -121,10 +121,10 @@ bad_entry q v text body rest h n line names e b (own, tail, f, is) barred number
     ends g = nothing own tail (sym f ∙ g)
 
 -- bits behind a history that isn't complete
-pub bad_bits : (q : Question) (v : Version) (text body rest : List ℕ) (h : List Noted) (line : ℕ) → Named q → text ≡ header_line v ++ 10 ∷ body → Begins q.job q.table v body h rest → ((n : Noted) → BeginsEntry v rest n → ⊥) → (Complete q.job (entries h) q.table → ⊥) → line ≡ length h + 2 → FirstBad q text line
+pub bad_bits : (q : Question) (v : Version) (text body rest : List ℕ) (h : List Noted) (line : ℕ) → Named q → text ≡ header_line v ++ 10 ∷ body → Begins q.job q.table v body h rest → ((n : Noted) → BeginsEntry v rest n → ⊥) → (Complete q.job (entries h) q.table → ⊥) → line ≡ length h + 2 → FirstBadLine q text line
 bad_bits q v text body rest h line names e b none incomplete number =
     let read = read_so_far q v text body rest rest h 0 e b refl (λ l. absurd (omega (arith, l))) (omega arith) in
-    let P : ℕ → Type 0 = λ m. FirstBad q text m in
+    let P : ℕ → Type 0 = λ m. FirstBadLine q text m in
     let stops : Stops q v h 0 rest = record {
       entry = λ l more g next. none next.noted (l, more, g, next.is);
       bits = λ l more g next. incomplete next.complete;
@@ -134,10 +134,10 @@ bad_bits q v text body rest h line names e b none incomplete number =
     subst P same (bad_behind q text rest v h 0 read.lines names read.stands read.text_is stops)
 
 -- lines of bits that stop before the k-th register's
-pub bad_stop : (q : Question) (v : Version) (text body rest : List ℕ) (h : List Noted) (k line : ℕ) → Named q → text ≡ header_line v ++ 10 ∷ body → Begins q.job q.table v body h rest → ((n : Noted) → BeginsEntry v rest n → ⊥) → Complete q.job (entries h) q.table → StopsAt q.registers q.bit rest k → line ≡ length h + 2 + k → FirstBad q text line
+pub bad_stop : (q : Question) (v : Version) (text body rest : List ℕ) (h : List Noted) (k line : ℕ) → Named q → text ≡ header_line v ++ 10 ∷ body → Begins q.job q.table v body h rest → ((n : Noted) → BeginsEntry v rest n → ⊥) → Complete q.job (entries h) q.table → StopsAt q.registers q.bit rest k → line ≡ length h + 2 + k → FirstBadLine q text line
 bad_stop q v text body rest h k line names e b none complete s number =
     let read = read_so_far q v text body rest s.behind h k e b s.text_is (λ l. complete) s.few in
-    let P : ℕ → Type 0 = λ m. FirstBad q text m in
+    let P : ℕ → Type 0 = λ m. FirstBadLine q text m in
     let stops : Stops q v h k s.behind = record {
       entry = λ l more g next. no_entry k s l more g next;
       bits = λ l more g next. s.other next.register more next.at (g ∙ ap (λ x. x ++ 10 ∷ more) next.is);
@@ -167,6 +167,6 @@ exact_verdict q text (verdict.Legal b) tells legal_or count names runs (job, (w,
     ap (λ (p : Position). verdict.Legal p) (ap (λ j. record { job = j; history = b.history }) job ∙ ap (λ g. record { job = q.job; history = g }) same)
 exact_verdict q text (verdict.Illegal line) tells legal_or count names runs bad v h is = absurd (legal_or q text line count names (v, h, is) bad)
 
-pub first_verdict : (q : Question) (text : List ℕ) (r : Verdict) → OneFirstBad → LegalOrBad → length q.table ≡ length q.job.products → Named q → IsVerdict q text r → (line : ℕ) → FirstBad q text line → r ≡ verdict.Illegal line
+pub first_verdict : (q : Question) (text : List ℕ) (r : Verdict) → OneFirstBad → LegalOrBad → length q.table ≡ length q.job.products → Named q → IsVerdict q text r → (line : ℕ) → FirstBadLine q text line → r ≡ verdict.Illegal line
 first_verdict q text (verdict.Legal b) one legal_or count names (job, (v, is)) line bad = absurd (legal_or q text line count names (v, b.history, is) bad)
 first_verdict q text (verdict.Illegal m) one legal_or count names first line bad = ap verdict.Illegal (one q text m line first bad)

@@ -1,5 +1,4 @@
 pub mod Replay
-pub mod Lines
-pub mod Joining
 pub mod Answers
 pub mod Laws
+pub mod inside

@@ -9,13 +9,13 @@ use Rattle.board_core.specs.declared.Noted.{Noted}
 use Rattle.board_core.specs.declared.Entry.{Entry}
 use Rattle.board_core.specs.declared.Entry.TheVariants.{Claim, Deliver, Release, Step, Settle}
 use Rattle.board_core.specs.History.{entries}
-use Rattle.board_core.specs.Legal.{Job, Legal, Complete}
+use Rattle.board_core.specs.Legal.{BoardJob, Legal, Complete}
 use Rattle.schedule_text.specs.Text.{Version, header_line, bits_line, text_of, ended}
 use Rattle.schedule_text.specs.Lines.{IsEntryLine, StandsIn}
 
 -- what a text is read against: a job, a table of outcomes, the registers, and the bits that the table leaves
 pub record Question : Type 0 where
-  pub job : Job
+  pub job : BoardJob
   pub table : List Given
   pub registers : List Register
   pub bit : ℕ → Bool
@@ -80,21 +80,21 @@ abbrev pub GoodUpTo : Question → List (List ℕ) → ℕ → Type 0
 GoodUpTo q lines n = (k : ℕ) (line : List ℕ) → k < n → slice_get lines k ≡ Some line → MayFollow q (take k lines) line
 
 -- the first line that may not stand where it stands; where all may, but the text isn't legal, one more than the number of line feeds. Lines count from 1
-abbrev pub FirstBad : Question → List ℕ → ℕ → Type 0
-FirstBad q text n =
+abbrev pub FirstBadLine : Question → List ℕ → ℕ → Type 0
+FirstBadLine q text n =
     (lines : List (List ℕ)) × (rest : List ℕ) × Splits text lines rest
     × (((k : ℕ) × (line : List ℕ) × (n ≡ k + 1) × (slice_get lines k ≡ Some line) × GoodUpTo q lines k × (MayFollow q (take k lines) line → ⊥))
     ⊎ ((n ≡ length lines + 1) × GoodUpTo q lines (length lines) × (IsLegalText q text → ⊥)))
 
 -- no text has two first bad lines
 abbrev pub OneFirstBad : Type 0
-OneFirstBad = (q : Question) (text : List ℕ) (m n : ℕ) → FirstBad q text m → FirstBad q text n → m ≡ n
+OneFirstBad = (q : Question) (text : List ℕ) (m n : ℕ) → FirstBadLine q text m → FirstBadLine q text n → m ≡ n
 
 -- what a circuit asks of a text: the bits are those of its own run with the table
-abbrev pub asked : Circuit → Job → List Given → Question
+abbrev pub asked : Circuit → BoardJob → List Given → Question
 asked c j table = record { job = j; table = table; registers = c.registers; bit = bit_after c.items table }
 
 -- no text of a legal complete history has a bad line, where the table has an outcome for each product
 abbrev pub LegalOrBad : Type 0
 LegalOrBad =
-    (q : Question) (text : List ℕ) (n : ℕ) → length q.table ≡ length q.job.products → All (λ r. IsOneLine r.name) q.registers → IsLegalText q text → FirstBad q text n → ⊥
+    (q : Question) (text : List ℕ) (n : ℕ) → length q.table ≡ length q.job.products → All (λ r. IsOneLine r.name) q.registers → IsLegalText q text → FirstBadLine q text n → ⊥

@@ -8,8 +8,8 @@ ghost use Rattle.source_model.specs.Statics.{statics};
 ghost use Rattle.board_core.specs.Position.{IsLegal};
 ghost use Rattle.schedule_text.specs.Text.{bits_line, bits_text, bit_in};
 ghost use Rattle.schedule_text.specs.Pens.{IsWithin};
-ghost use Rattle.history_replay.specs.Lines.{StopsAt};
-ghost use Rattle.history_replay.specs.Joining.{IsOver, AllOver, AgreeAll, Closes, Fails};
+ghost use Rattle.history_replay.specs.inside.Lines.{StopsAt};
+ghost use Rattle.history_replay.specs.inside.Joining.{IsOver, AllOver, AgreeAll, Closes, Fails};
 
 use crate::lines::{ended_line, is_bits_line};
 use board_core::Board;

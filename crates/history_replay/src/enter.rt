@@ -7,7 +7,7 @@ ghost use Rattle.board_core.specs.Legal.{Allowed};
 ghost use Rattle.board_core.specs.Position.{past, with_entry};
 ghost use Rattle.schedule_text.specs.Text.{Version};
 ghost use Rattle.schedule_text.specs.Lines.{IsShaped, version_of};
-ghost use Rattle.history_replay.specs.Joining.{Joins, MayJoin, CertifiedAs, IsEntered};
+ghost use Rattle.history_replay.specs.inside.Joining.{Joins, MayJoin, CertifiedAs, IsEntered};
 
 use crate::lines::ended_line;
 use board_core::{Board, Entry, Noted};

@@ -7,7 +7,7 @@ ghost use Rattle.source_model.specs.Statics.{statics};
 ghost use Rattle.board_core.specs.declared.Noted.{Noted};
 ghost use Rattle.board_core.specs.Position.{with_history};
 ghost use Rattle.schedule_text.specs.Text.{Version};
-ghost use Rattle.history_replay.specs.Replay.{IsTextOf, FirstBad, OneFirstBad, LegalOrBad, asked};
+ghost use Rattle.history_replay.specs.Replay.{IsTextOf, FirstBadLine, OneFirstBad, LegalOrBad, asked};
 ghost use Rattle.history_replay.specs.declared.Verdict.TheVariants.{Legal};
 ghost use Rattle.history_replay.specs.Answers.{IsVerdict};
 ghost use Rattle.history_replay.specs.Laws.{SchedulesAreLegal};
@@ -61,7 +61,7 @@ pub fn verify(
         → IsTextOf (asked circuit.now board.job outcomes.now.given) text.now v h
         → IfOk result (λ r. r ≡ Verdict.Legal (with_history board h)) }
     ensures first { (line : ℕ)
-        → FirstBad (asked circuit.now board.job outcomes.now.given) text.now line
+        → FirstBadLine (asked circuit.now board.job outcomes.now.given) text.now line
         → IfOk result (λ r. r ≡ Verdict.Illegal line) }
 {
     law_one_first_bad();
@@ -105,7 +105,7 @@ fn first_bad(
     requires products { board.old.job.products ≡ statics circuit.now.items }
     requires table { RightKinds circuit.now.items outcomes.now.given }
     ensures bad { let q = asked circuit.now board.old.job outcomes.now.given in
-        IfOk result (λ f. IfSome f (FirstBad q text.now)) }
+        IfOk result (λ f. IfSome f (FirstBadLine q text.now)) }
     ensures legal { let q = asked circuit.now board.old.job outcomes.now.given in
         IfOk result (λ f. IfNone f (IsVerdict q text.now (Legal board.new))) }
 {

@@ -3,7 +3,7 @@
 ghost use Rattle.std.specs.Prelude.{◌≡◌, ◌↔◌, ℕ, ◌+◌, ◌≤◌, List, [], ◌∷◌, ◌++◌, length, drop, codes, MatchOption, IfSome, IfNone, IsTrue};
 ghost use Rattle.patch_base.specs.Texts.{digit};
 ghost use Rattle.schedule_text.specs.Text.{Version, header_line, bits_line, bit_in, digits};
-ghost use Rattle.history_replay.specs.Lines.{IsEnded, IsHeader};
+ghost use Rattle.history_replay.specs.inside.Lines.{IsEnded, IsHeader};
 
 use patch_base::next_line;
 use source_model::Register;

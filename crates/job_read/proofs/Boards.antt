@@ -8,7 +8,7 @@ use Rattle.source_model.specs.declared.Static.{Static}
 use Rattle.source_model.specs.Used.{acts, acts_at}
 use Rattle.magic_pool.specs.declared.Fail.{Fail}
 use Rattle.patch_layout.specs.Grid.{Grid}
-use Rattle.board_core.specs.Legal.{Job as BoardJob}
+use Rattle.board_core.specs.Legal.{BoardJob}
 use Rattle.board_core.specs.Limits.{WithinLimits}
 use Rattle.board_core.specs.Suits.{IsOpenFor, HaveLetters}
 use Rattle.job_read.specs.declared.Job.{Job}

@@ -24,7 +24,7 @@ use Rattle.source_model.specs.Used.{acts, acts_at, is_used, takes_region, UsedBy
 use Rattle.rotation_list.specs.Needs.{is_rotation}
 use Rattle.patch_layout.specs.Row.{IsUsed}
 use Rattle.job_read.specs.Kept.{HaveLetters}
-use Rattle.job_read.specs.Stages.{wanted_of}
+use Rattle.job_read.specs.Stages.{demand_of}
 
 -- ---- letters
 abbrev LetterAt : List Letter → ℕ → Type 0
@@ -118,7 +118,7 @@ used_below n (s ∷ ss) q h used =
       | inr later ↦ used_below n ss q (All-tail (Long n) s ss h) later
     ]
 
-pub all_used : (n : ℕ) (ss : List Static) → All (λ s. OfLength n s.axis) ss → (q : ℕ) → UsedBy ss q → IsUsed (wanted_of n ss).used q
+pub all_used : (n : ℕ) (ss : List Static) → All (λ s. OfLength n s.axis) ss → (q : ℕ) → UsedBy ss q → IsUsed (demand_of n ss).used q
 all_used n ss h q used =
     let below : q < n = used_below n ss q h used in
     let within : q < length (map (is_used ss) (range_with_len 0 n)) = let l = length-map-range_with_len (is_used ss) 0 n in omega arith in

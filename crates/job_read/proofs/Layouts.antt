@@ -11,8 +11,8 @@ use Rattle.rotation_list.specs.Needs.{IsNeedOf}
 use Rattle.patch_layout.specs.declared.layout.Edge.TheVariants as edge
 use Rattle.patch_layout.specs.declared.fault.LayoutFault.{LayoutFault}
 use Rattle.patch_layout.specs.declared.fault.LayoutFault.TheVariants as fault
-use Rattle.patch_layout.specs.Grid.{Grid, Wanted, Open, OnPatch}
-use Rattle.patch_layout.specs.Row.{row_grid, wanted, RowRefused}
+use Rattle.patch_layout.specs.Grid.{Grid, Demand, Open, OnPatch}
+use Rattle.patch_layout.specs.Row.{row_grid, demand, RowRefused}
 use Rattle.patch_layout.specs.LayoutText.{StandsFor, Refused}
 use Rattle.patch_layout.proofs.Rows.{patch_place}
 use Rattle.source_model.specs.declared.Circuit.{Circuit}
@@ -21,7 +21,7 @@ use Rattle.job_read.specs.declared.fault.JobFault.TheVariants as job
 use Rattle.job_read.specs.Faults.{fault_of_layout}
 use Rattle.job_read.specs.Reading.{Seen, IsRow, IsNamed}
 use Rattle.job_read.specs.Jobs.{LayoutStops, IsOutside}
-use Rattle.job_read.specs.Stages.{wanted_of, wanted_by, LayoutStands, LayoutRefused}
+use Rattle.job_read.specs.Stages.{demand_of, wanted_by, LayoutStands, LayoutRefused}
 use Rattle.job_read.proofs.Cut.{LongAlike, short_alike}
 
 -- ---- what is asked
@@ -31,12 +31,12 @@ used_is need qubits products n =
     (λ k d below. let within : k < qubits = let e = n.one_each in omega arith in
     get_or_from_slice_get need.used k (is_used products k) d (n.used k within) ∙ sym (get_or-map-range_with_len (is_used products) 0 qubits k k d within (omega arith)))
 
-pub wanted_is : (need : Need) (qubits : ℕ) (products : List Static) → IsNeedOf qubits products need → wanted need.used need.rotations ≡ wanted_of qubits products
+pub wanted_is : (need : Need) (qubits : ℕ) (products : List Static) → IsNeedOf qubits products need → demand need.used need.rotations ≡ demand_of qubits products
 wanted_is need qubits products n = let u = used_is need qubits products n in let r = n.rotations in cc
 
 -- ---- the row layout
 -- a row that is open has at most 64 patches, so it is not refused
-pub open_row : (n : ℕ) (w : Wanted) (f : LayoutFault) → Open (row_grid (min n 64)) w → RowRefused w.used f → f ≡ fault.Memory
+pub open_row : (n : ℕ) (w : Demand) (f : LayoutFault) → Open (row_grid (min n 64)) w → RowRefused w.used f → f ≡ fault.Memory
 open_row n w fault.TooLong o r = absurd r
 open_row n w (fault.Form line) o r = absurd r
 open_row n w fault.Size o r = absurd r
@@ -61,7 +61,7 @@ one_row_fault used (fault.PatchMissing p) _ other r s = absurd s
 one_row_fault used _ f other r s = absurd r
 
 -- ---- texts past the limit
-pub refusals_alike : (w : Wanted) (f : LayoutFault) → LongAlike (λ t. Refused t w f)
+pub refusals_alike : (w : Demand) (f : LayoutFault) → LongAlike (λ t. Refused t w f)
 refusals_alike w fault.TooLong = record { alike = λ s t long past r. past }
 refusals_alike w (fault.Form line) = short_alike _ (λ t r. r.0)
 refusals_alike w fault.Size = short_alike _ (λ t r. r.0)

@@ -14,7 +14,7 @@ use Rattle.patch_layout.specs.declared.layout.Site.{Site}
 use Rattle.patch_layout.specs.declared.layout.Site.TheVariants as site
 use Rattle.patch_layout.specs.declared.fault.LayoutFault.{LayoutFault}
 use Rattle.patch_layout.specs.declared.fault.LayoutFault.TheVariants as layout_fault
-use Rattle.patch_layout.specs.Grid.{Grid, Wanted, Open}
+use Rattle.patch_layout.specs.Grid.{Grid, Demand, Open}
 use Rattle.patch_layout.specs.Row.{row_grid, RowRefused}
 use Rattle.patch_layout.specs.LayoutText as layouts
 use Rattle.outcome_table.specs.declared.Outcomes.{Outcomes}
@@ -37,11 +37,11 @@ CircuitRefused s f = (f ≢ circuit_fault.Memory) × IfSome s.told (λ text. cir
 -- ---- the layout
 
 -- what products on so many qubits ask of a layout: the qubits on which rotations and measurements act, and a port for rotations
-abbrev pub wanted_of : ℕ → List Static → Wanted
-wanted_of qubits products = record { used = map (is_used products) (range_with_len 0 qubits); rotations = list_any is_rotation products }
+abbrev pub demand_of : ℕ → List Static → Demand
+demand_of qubits products = record { used = map (is_used products) (range_with_len 0 qubits); rotations = list_any is_rotation products }
 
-abbrev pub wanted_by : Circuit → Wanted
-wanted_by c = wanted_of c.qubits (statics c.items)
+abbrev pub wanted_by : Circuit → Demand
+wanted_by c = demand_of c.qubits (statics c.items)
 
 -- the row layout of the circuit's qubits, or the one for which the told text stands
 abbrev pub IsLayoutOf : List ℕ → Seen → Circuit → Grid → Type 0

@@ -1,7 +1,7 @@
 -- The board of a job.
 use Rattle.std.specs.Prelude.{[]}
 use Rattle.board_core.specs.Headline.{job_of}
-use Rattle.board_core.specs.Legal.{Job as BoardJob}
+use Rattle.board_core.specs.Legal.{BoardJob}
 use Rattle.board_core.specs.Position.{Position}
 use Rattle.job_read.specs.declared.Job.{Job}
 

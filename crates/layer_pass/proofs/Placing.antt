@@ -5,8 +5,8 @@ use Rattle.std.proofs.lemmas.List.{get_or_append_left, get_or_push, length_push}
 use Rattle.pauli_product.specs.Signed.{Signed}
 use Rattle.commute_order.specs.declared.Uses.{Uses}
 use Rattle.commute_order.specs.Commuting.{commuting_at}
-use Rattle.layer_pass.specs.Layering.{IsLeast, IsBelow}
-use Rattle.layer_pass.specs.Drafts.{IsPlace, IsFilled, IsDraft}
+use Rattle.layer_pass.specs.Layering.{IsLeastNumber, IsBelow}
+use Rattle.layer_pass.specs.inside.Drafts.{IsPlace, IsFilled, IsDraft}
 use Rattle.layer_pass.proofs.Finds.{IsFirstAt, none_passes, found_at}
 use Rattle.layer_pass.proofs.Rising.{lower_first}
 use Rattle.layer_pass.proofs.Rows.{place_in, layer_before, layer_last}
@@ -54,7 +54,7 @@ module _ (ps : List Signed) (us : List Uses) where
         ]
 
     -- the new product is held by its blocker
-    held_by : (n : ℕ) → 0 < below → IsFirstAt (λ j. not (commuting_at ps us j p)) (get_or rows (below - 1) []) blocker n → IsLeast (IsBelow ps us new p) blocker
+    held_by : (n : ℕ) → 0 < below → IsFirstAt (λ j. not (commuting_at ps us j p)) (get_or rows (below - 1) []) blocker n → IsLeastNumber (IsBelow ps us new p) blocker
     held_by n h first =
         let row = get_or rows (below - 1) [] in
         let number : below - 1 + 1 ≡ below = omega arith in
@@ -76,7 +76,7 @@ module _ (ps : List Signed) (us : List Uses) where
               both_ways _ b.clash (sym (ap (λ j. commuting_at ps us j p) at.1.is) ∙ not-false _ quiet);
         }
 
-    held_still : (j : ℕ) → j < p → IsLeast (IsBelow ps us layer j) (get_or before j 0) → IsLeast (IsBelow ps us new j) (get_or before j 0)
+    held_still : (j : ℕ) → j < p → IsLeastNumber (IsBelow ps us layer j) (get_or before j 0) → IsLeastNumber (IsBelow ps us new j) (get_or before j 0)
     held_still j h least =
         let second = layer_before layer (below + 1) j h in
         record {
@@ -94,15 +94,15 @@ module _ (ps : List Signed) (us : List Uses) where
       held = λ j h high. elim (cases_lt j p) [
         | inl old ↦
             let same = layer_before layer (below + 1) j old in
-            subst (IsLeast (IsBelow ps us new j)) (sym (get_or_append_left before (blocker ∷ []) 0 j (omega arith)))
+            subst (IsLeastNumber (IsBelow ps us new j)) (sym (get_or_append_left before (blocker ∷ []) 0 j (omega arith)))
             (held_still j old (draft.held j old (omega arith)))
         | inr last ↦
             let at : p ≡ j = omega (arith, length_push layer (below + 1)) in
             let own : get_or new j 0 ≡ below + 1 = sym (ap (λ q. get_or new q 0) at) ∙ layer_last layer (below + 1) in
             let some : 0 < below = omega arith in
             let first = found_at (λ j. not (commuting_at ps us j p)) (get_or rows (below - 1) []) blocker (place.blocks some) in
-            subst (λ q. IsLeast (IsBelow ps us new q) (get_or (before ++ blocker ∷ []) q 0)) at
-            (subst (IsLeast (IsBelow ps us new p)) (sym (get_or_push before blocker 0 p size)) (held_by first.0 some first.1))
+            subst (λ q. IsLeastNumber (IsBelow ps us new q) (get_or (before ++ blocker ∷ []) q 0)) at
+            (subst (IsLeastNumber (IsBelow ps us new p)) (sym (get_or_push before blocker 0 p size)) (held_by first.0 some first.1))
       ];
     }
 

@@ -4,7 +4,7 @@ use Rattle.std.specs.Prelude.{All, Contains}
 use Rattle.std.proofs.lemmas.Bool.{cases_lt, cases_eq}
 use Rattle.std.proofs.lemmas.List.{get_or_append_left, get_or_push, length_push, length-set, get_or-set_same, get_or-set_other, get_or_default}
 use Rattle.std.proofs.lemmas.List.Elements.{All-weaker, All-from_get_or, All-push, Contains-append_left, Contains-push}
-use Rattle.layer_pass.specs.Drafts.{IsRow, IsFilled}
+use Rattle.layer_pass.specs.inside.Drafts.{IsRow, IsFilled}
 use Rattle.layer_pass.proofs.Rising.{rising-push}
 
 -- a product that a row contains stands at some place of it

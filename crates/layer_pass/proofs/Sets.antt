@@ -8,9 +8,9 @@ use Rattle.pauli_product.specs.Signed.{Signed}
 use Rattle.commute_order.specs.declared.Uses.{Uses}
 use Rattle.commute_order.specs.Commuting.{commuting_at, WaitsOn, LeastWait}
 use Rattle.layer_pass.specs.declared.draft.Low.{Low}
-use Rattle.layer_pass.specs.Layering.{IsLeast}
-use Rattle.layer_pass.specs.Drafts.{first_clash_of, IsPlace, IsFilled}
-use Rattle.layer_pass.specs.Lows.{IsLow, marked, IsAbove, LeastAbove, IsReach}
+use Rattle.layer_pass.specs.Layering.{IsLeastNumber}
+use Rattle.layer_pass.specs.inside.Drafts.{first_clash_of, IsPlace, IsFilled}
+use Rattle.layer_pass.specs.inside.Lows.{IsLow, marked, IsAbove, LeastAbove, IsReach}
 use Rattle.layer_pass.proofs.Finds.{find-none, find-first, none_passes}
 use Rattle.layer_pass.proofs.Rising.{rises}
 use Rattle.layer_pass.proofs.Rows.{place_in, layer_before, layer_last}
@@ -67,7 +67,7 @@ module _ (ps : List Signed) (us : List Uses) (layer : List ℕ) where
         ap not (true_from_ne_false (commuting_at ps us j p) (λ clash. none j (record { earlier = earlier; clash = clash; above = high }))))
 
     -- the least that holds it above so many layers stands in the next one, where no higher row holds it
-    pub held_there : (below blocker : ℕ) → 0 < below → ((k : ℕ) → below ≤ k → k < length rows → first_clash_of ps us p (get_or rows k []) ≡ None) → IsLeast (IsAbove ps us layer (below - 1) p) blocker → first_clash_of ps us p (get_or rows (below - 1) []) ≡ Some blocker
+    pub held_there : (below blocker : ℕ) → 0 < below → ((k : ℕ) → below ≤ k → k < length rows → first_clash_of ps us p (get_or rows k []) ≡ None) → IsLeastNumber (IsAbove ps us layer (below - 1) p) blocker → first_clash_of ps us p (get_or rows (below - 1) []) ≡ Some blocker
     held_there below blocker some silent least =
         let has = least.has in
         let there : blocker < length layer = subst (λ q. blocker < q) (sym size) has.earlier in
@@ -104,10 +104,10 @@ module _ (ps : List Signed) (us : List Uses) (layer : List ℕ) where
 
   -- ---- a step of the search
   module _ (rows : List (List ℕ)) (p below blocker end : ℕ) (reach : IsReach ps us layer rows p below blocker end) where
-    pub reach_held : (row j : ℕ) → IsLeast (IsAbove ps us layer row p) j → IsReach ps us layer rows p (row + 1) j end
+    pub reach_held : (row j : ℕ) → IsLeastNumber (IsAbove ps us layer row p) j → IsReach ps us layer rows p (row + 1) j end
     reach_held row j least = record {
       silent = reach.silent;
-      held = λ h. let same : row ≡ row + 1 - 1 = omega arith in subst (λ b. IsLeast (IsAbove ps us layer b p) j) same least;
+      held = λ h. let same : row ≡ row + 1 - 1 = omega arith in subst (λ b. IsLeastNumber (IsAbove ps us layer b p) j) same least;
     }
 
     pub reach_silent : (row : ℕ) → IsFilled layer rows → length layer ≡ p → ((j : ℕ) → IsAbove ps us layer row p j → ⊥) → IsReach ps us layer rows p below blocker row
@@ -132,8 +132,8 @@ module _ (ps : List Signed) (us : List Uses) (layer : List ℕ) where
             | inr still ↦
                 let same : now ≡ below = omega arith in
                 held_there rows filled p size now by some above
-                (subst (λ b. IsLeast (IsAbove ps us layer (b - 1) p) by) (sym same)
-                (subst (IsLeast (IsAbove ps us layer (below - 1) p)) (sym (kept same)) (reach.held (omega arith))))
+                (subst (λ b. IsLeastNumber (IsAbove ps us layer (b - 1) p) by) (sym same)
+                (subst (IsLeastNumber (IsAbove ps us layer (below - 1) p)) (sym (kept same)) (reach.held (omega arith))))
           ];
         }
 

@@ -5,8 +5,8 @@ use Rattle.std.proofs.lemmas.List.Elements.{All-from_get_or}
 use Rattle.pauli_product.specs.Signed.{Signed}
 use Rattle.commute_order.specs.declared.Uses.{Uses}
 use Rattle.commute_order.specs.Commuting.{commuting_at}
-use Rattle.layer_pass.specs.Layering.{IsLayering, IsChain, IsLeast, IsBelow, IsTraced}
-use Rattle.layer_pass.specs.Drafts.{IsFilled, IsDraft, IsWalk}
+use Rattle.layer_pass.specs.Layering.{IsLayering, IsChain, IsLeastNumber, IsBelow, IsTraced}
+use Rattle.layer_pass.specs.inside.Drafts.{IsFilled, IsDraft, IsWalk}
 use Rattle.layer_pass.proofs.Rising.{rising_le}
 use Rattle.layer_pass.proofs.Rows.{place_in}
 use Rattle.layer_pass.proofs.Bounds.{chains_bound_layerings}
@@ -73,10 +73,10 @@ module _ (ps : List Signed) (us : List Uses) (layer before : List ℕ) (rows : L
     stands_at i h = stands (length rows - (i + 1)) i (omega arith)
 
     -- what holds each product of the chain but the first in its layer
-    held_at : (i : ℕ) → i + 1 < length rows → IsLeast (IsBelow ps us layer (get_or chain (i + 1) 0)) (get_or chain i 0)
+    held_at : (i : ℕ) → i + 1 < length rows → IsLeastNumber (IsBelow ps us layer (get_or chain (i + 1) 0)) (get_or chain i 0)
     held_at i h =
         let next = stands_at (i + 1) h in
-        subst (IsLeast (IsBelow ps us layer (get_or chain (i + 1) 0))) (sym (walk.back i h))
+        subst (IsLeastNumber (IsBelow ps us layer (get_or chain (i + 1) 0))) (sym (walk.back i h))
         (draft.held (get_or chain (i + 1) 0) next.within (let n = next.number in omega arith))
 
     pub is_traced : IsTraced ps us layer chain

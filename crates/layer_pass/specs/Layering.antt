@@ -27,7 +27,7 @@ pub record IsChain (ps : List Signed) (us : List Uses) (chain : List ℕ) : Type
   pub clashes : (i : ℕ) → i + 1 < length chain → commuting_at ps us (slice_index chain i) (slice_index chain (i + 1)) ≡ false
 
 -- the least number with a property
-pub record IsLeast (P : ℕ → Type 0) (n : ℕ) : Type 0 where
+pub record IsLeastNumber (P : ℕ → Type 0) (n : ℕ) : Type 0 where
   pub has : P n
   pub none_below : (k : ℕ) → k < n → P k → ⊥
 
@@ -44,8 +44,8 @@ pub record IsBelow (ps : List Signed) (us : List Uses) (layer : List ℕ) (p j :
 
 -- a product from each layer: in the last layer the least one, and in each before the least one below its successor
 pub record IsTraced (ps : List Signed) (us : List Uses) (layer : List ℕ) (chain : List ℕ) : Type 0 where
-  pub last : (i : ℕ) → i + 1 ≡ length chain → IsLeast (IsLast layer (length chain)) (slice_index chain i)
-  pub before : (i : ℕ) → i + 1 < length chain → IsLeast (IsBelow ps us layer (slice_index chain (i + 1))) (slice_index chain i)
+  pub last : (i : ℕ) → i + 1 ≡ length chain → IsLeastNumber (IsLast layer (length chain)) (slice_index chain i)
+  pub before : (i : ℕ) → i + 1 < length chain → IsLeastNumber (IsBelow ps us layer (slice_index chain (i + 1))) (slice_index chain i)
 
 -- a chain is never longer than a layering has layers
 abbrev pub ChainsBoundLayerings : Type 0

@@ -1,3 +1,2 @@
 pub mod Layering
-pub mod Drafts
-pub mod Lows
+pub mod inside

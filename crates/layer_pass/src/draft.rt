@@ -10,8 +10,8 @@ ghost use Rattle.pauli_product.specs.Signed.{Signed};
 ghost use Rattle.commute_order.specs.declared.Uses.{Uses};
 ghost use Rattle.commute_order.specs.Commuting.{IsOrder, LeastWait};
 ghost use Rattle.layer_pass.specs.declared.draft.Low.{Low};
-ghost use Rattle.layer_pass.specs.Drafts.{first_clash_of, IsPlace, IsFilled, IsDraft, IsWalk};
-ghost use Rattle.layer_pass.specs.Lows.{IsLow, IsReach, marked};
+ghost use Rattle.layer_pass.specs.inside.Drafts.{first_clash_of, IsPlace, IsFilled, IsDraft, IsWalk};
+ghost use Rattle.layer_pass.specs.inside.Lows.{IsLow, IsReach, marked};
 
 use crate::NumberList;
 use commute_order::{DoneSet, Order};

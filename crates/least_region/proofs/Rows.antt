@@ -10,7 +10,7 @@ use Rattle.patch_layout.specs.Grid.{Grid}
 use Rattle.patch_layout.specs.Region.{OnSide}
 use Rattle.patch_layout.specs.Spread.{Marked, OnGoal}
 use Rattle.patch_layout.proofs.Places.{get_kept, get_cases, get_set_cases, get_set_here, get_from_Contains, Contains_from_get, same_entry}
-use Rattle.least_region.specs.inside.Table.{AtMost, Entry, IsBase, Least, Table}
+use Rattle.least_region.specs.inside.Table.{AtMost, Entry, IsBase, LeastRow, Table}
 use Rattle.least_region.specs.inside.Growth.{Under, Keeps, Lowered, Spreads, HasRows, OnFree, MergedTo, Begun, first_sizes}
 use Rattle.least_region.proofs.Lowering.{under_set}
 use Rattle.least_region.proofs.Masks.{twice}
@@ -90,7 +90,7 @@ begun_more free limit pair row queue after more n cell b item lowered =
 
 -- a row after all its steps
 pub next_least : (g : Grid) (free : List Bool) (limit : ℕ) (pair : List (Option ℕ)) (rows : List (List ℕ)) (m : ℕ) (one two three : List ℕ) → length free ≡ length g.sites → OnFree rows free limit → length two ≡ length one
-    → Begun free limit pair one (length pair) → MergedTo rows m limit one two m → Keeps g free limit two three → Under two three → Spreads g free limit three → Least g free limit (OnGoal pair) rows m three
+    → Begun free limit pair one (length pair) → MergedTo rows m limit one two m → Keeps g free limit two three → Under two three → Spreads g free limit three → LeastRow g free limit (OnGoal pair) rows m three
 next_least g free limit pair rows m one two three size on-free same-size b t keeps under spreads = (
   keeps pair rows m (record {
     sizes = omega (arith, b.sizes);
@@ -121,7 +121,7 @@ entry_old : (rows : List (List ℕ)) (row : List ℕ) (m c v : ℕ) → m < leng
 entry_old rows row m c v lt (r, is, at') = elim (get_cases rows row m r is) [ inl old ↦ (r, old, at') | inr new ↦ absurd (let e = new.0 in omega arith) ]
 
 -- one more row changes nothing for the others
-least_kept : (g : Grid) (free : List Bool) (limit : ℕ) (Base : ℕ → Type 0) (rows : List (List ℕ)) (row : List ℕ) (m : ℕ) (r : List ℕ) → m ≤ length rows → Least g free limit Base rows m r → Least g free limit Base (rows ++ row ∷ []) m r
+least_kept : (g : Grid) (free : List Bool) (limit : ℕ) (Base : ℕ → Type 0) (rows : List (List ℕ)) (row : List ℕ) (m : ℕ) (r : List ℕ) → m ≤ length rows → LeastRow g free limit Base rows m r → LeastRow g free limit Base (rows ++ row ∷ []) m r
 least_kept g free limit Base rows row m r le (s, k) = (
   record {
     sizes = s.sizes;
@@ -142,7 +142,7 @@ least_kept g free limit Base rows row m r le (s, k) = (
 )
 
 -- what alone touches the sides may be said in other words
-least_based : (g : Grid) (free : List Bool) (limit : ℕ) (A B : ℕ → Type 0) (rows : List (List ℕ)) (m : ℕ) (r : List ℕ) → ((c : ℕ) → A c → B c) → ((c : ℕ) → B c → A c) → Least g free limit A rows m r → Least g free limit B rows m r
+least_based : (g : Grid) (free : List Bool) (limit : ℕ) (A B : ℕ → Type 0) (rows : List (List ℕ)) (m : ℕ) (r : List ℕ) → ((c : ℕ) → A c → B c) → ((c : ℕ) → B c → A c) → LeastRow g free limit A rows m r → LeastRow g free limit B rows m r
 least_based g free limit A B rows m r to from (s, k) = (
   record {
     sizes = s.sizes;
@@ -153,14 +153,14 @@ least_based g free limit A B rows m r to from (s, k) = (
   record { base = λ c b. k.base c (from c b); grown = k.grown; united = k.united },
 )
 
-table_more : (g : Grid) (free : List Bool) (limit : ℕ) (sides : List Side) (rows : List (List ℕ)) (row : List ℕ) → Table g free limit sides rows → Least g free limit (IsBase g sides (length rows)) rows (length rows) row
+table_more : (g : Grid) (free : List Bool) (limit : ℕ) (sides : List Side) (rows : List (List ℕ)) (row : List ℕ) → Table g free limit sides rows → LeastRow g free limit (IsBase g sides (length rows)) rows (length rows) row
     → Table g free limit sides (rows ++ row ∷ [])
 table_more g free limit sides rows row t new m r is =
     elim (get_cases rows row m r is) [
       | inl old ↦ least_kept g free limit (IsBase g sides m) rows row m r (let w = slice_get_within rows m r old in omega arith) (t m r old)
       | inr (at', same) ↦
-          let P : ℕ → Type 0 = λ y. Least g free limit (IsBase g sides y) (rows ++ row ∷ []) y r in
-          let Q : List ℕ → Type 0 = λ z. Least g free limit (IsBase g sides (length rows)) (rows ++ row ∷ []) (length rows) z in
+          let P : ℕ → Type 0 = λ y. LeastRow g free limit (IsBase g sides y) (rows ++ row ∷ []) y r in
+          let Q : List ℕ → Type 0 = λ z. LeastRow g free limit (IsBase g sides (length rows)) (rows ++ row ∷ []) (length rows) z in
           subst P (sym at') (subst Q same (least_kept g free limit (IsBase g sides (length rows)) rows row (length rows) row (omega arith) new))
     ]
 
@@ -181,7 +181,7 @@ not_one g sides k m c low high (inr (i, s, is, at', on)) =
     ]
 
 pub table_first : (g : Grid) (free : List Bool) (limit : ℕ) (sides : List Side) (k : ℕ) (s : Side) (pair : List (Option ℕ)) (rows : List (List ℕ)) (row : List ℕ) → length rows ≡ 2 ^ k → slice_get sides k ≡ Some s
-    → ((c : ℕ) → OnGoal pair c → OnSide g s c) → ((c : ℕ) → OnSide g s c → OnGoal pair c) → Table g free limit sides rows → Least g free limit (OnGoal pair) rows (length rows) row → Table g free limit sides (rows ++ row ∷ [])
+    → ((c : ℕ) → OnGoal pair c → OnSide g s c) → ((c : ℕ) → OnSide g s c → OnGoal pair c) → Table g free limit sides rows → LeastRow g free limit (OnGoal pair) rows (length rows) row → Table g free limit sides (rows ++ row ∷ [])
 table_first g free limit sides k s pair rows row count is to from t least =
     let power = pow_pos k in
     table_more g free limit sides rows row t
@@ -202,7 +202,7 @@ none_on : (c : ℕ) → OnGoal [] c → ⊥
 none_on c (k, lt, e) = absurd (omega arith)
 
 pub table_next : (g : Grid) (free : List Bool) (limit : ℕ) (sides : List Side) (k : ℕ) (rows : List (List ℕ)) (row : List ℕ) → 2 ^ k < length rows → length rows < 2 ^ (k + 1)
-    → Table g free limit sides rows → Least g free limit (OnGoal []) rows (length rows) row → Table g free limit sides (rows ++ row ∷ [])
+    → Table g free limit sides rows → LeastRow g free limit (OnGoal []) rows (length rows) row → Table g free limit sides (rows ++ row ∷ [])
 table_next g free limit sides k rows row low high t least =
     table_more g free limit sides rows row t
     (least_based g free limit (OnGoal []) (IsBase g sides (length rows)) rows (length rows) row
@@ -235,7 +235,7 @@ first_length (b ∷ free) limit = let w = first_length free limit in omega arith
 -- the table of no sides
 pub table_start : (g : Grid) (free : List Bool) (limit : ℕ) (sides : List Side) (row : List ℕ) → length free ≡ length g.sites → row ≡ first_sizes free limit → Table g free limit sides ([] ++ row ∷ [])
 table_start g free limit sides row size e =
-    let P : List ℕ → Type 0 = λ r. Least g free limit (IsBase g sides 0) [] 0 r in
+    let P : List ℕ → Type 0 = λ r. LeastRow g free limit (IsBase g sides 0) [] 0 r in
     let first : P (first_sizes free limit) = (
       record {
         sizes = omega (arith, first_length free limit);
@@ -259,10 +259,10 @@ pub few_rows : (k n : ℕ) → k < n → n ≤ 5 → 2 ^ k + 2 ^ k ≤ 32
 few_rows k n lt le = let w : k + 1 ≤ 5 = omega arith in let p : 2 ^ (k + 1) ≤ 2 ^ 5 = pow_mono w in let e = twice_more k in omega arith
 
 pub rows_first : (g : Grid) (free : List Bool) (limit : ℕ) (sides : List Side) (k : ℕ) (s : Side) (pair : List (Option ℕ)) (rows same after : List (List ℕ)) (row : List ℕ) → length rows ≡ 2 ^ k → slice_get sides k ≡ Some s
-    → ((c : ℕ) → OnGoal pair c → OnSide g s c) → ((c : ℕ) → OnSide g s c → OnGoal pair c) → Table g free limit sides rows → same ≡ rows → Least g free limit (OnGoal pair) same (length same) row → after ≡ rows ++ row ∷ []
+    → ((c : ℕ) → OnGoal pair c → OnSide g s c) → ((c : ℕ) → OnSide g s c → OnGoal pair c) → Table g free limit sides rows → same ≡ rows → LeastRow g free limit (OnGoal pair) same (length same) row → after ≡ rows ++ row ∷ []
     → (2 ^ k < length after) × (length after ≤ 2 ^ (k + 1)) × Table g free limit sides after
 rows_first g free limit sides k s pair rows same after row count is to from t e least after-is =
-    let P : List (List ℕ) → Type 0 = λ r. Least g free limit (OnGoal pair) r (length r) row in
+    let P : List (List ℕ) → Type 0 = λ r. LeastRow g free limit (OnGoal pair) r (length r) row in
     let Q : List (List ℕ) → Type 0 = λ r. (2 ^ k < length r) × (length r ≤ 2 ^ (k + 1)) × Table g free limit sides r in
     let power = pow_pos k in
     let more = twice_more k in
@@ -270,9 +270,9 @@ rows_first g free limit sides k s pair rows same after row count is to from t e 
     subst Q (sym after-is) (omega arith, omega arith, table_first g free limit sides k s pair rows row count is to from t (subst P e least))
 
 pub rows_next : (g : Grid) (free : List Bool) (limit : ℕ) (sides : List Side) (k : ℕ) (rows same after : List (List ℕ)) (row : List ℕ) → (2 ^ k < length rows) × (length rows ≤ 2 ^ (k + 1)) × Table g free limit sides rows → length rows < 2 ^ (k + 1)
-    → same ≡ rows → Least g free limit (OnGoal []) same (length same) row → after ≡ rows ++ row ∷ [] → (2 ^ k < length after) × (length after ≤ 2 ^ (k + 1)) × Table g free limit sides after
+    → same ≡ rows → LeastRow g free limit (OnGoal []) same (length same) row → after ≡ rows ++ row ∷ [] → (2 ^ k < length after) × (length after ≤ 2 ^ (k + 1)) × Table g free limit sides after
 rows_next g free limit sides k rows same after row (low, high, t) lt e least after-is =
-    let P : List (List ℕ) → Type 0 = λ r. Least g free limit (OnGoal []) r (length r) row in
+    let P : List (List ℕ) → Type 0 = λ r. LeastRow g free limit (OnGoal []) r (length r) row in
     let Q : List (List ℕ) → Type 0 = λ r. (2 ^ k < length r) × (length r ≤ 2 ^ (k + 1)) × Table g free limit sides r in
     let size = length-append rows (row ∷ []) in
     subst Q (sym after-is) (omega arith, omega arith, table_next g free limit sides k rows row low lt t (subst P e least))

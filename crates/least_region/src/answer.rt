@@ -1,7 +1,7 @@
 //! The planner of least regions.
 
 ghost use Rattle.std.specs.Prelude.{◌≡◌, ℕ, length};
-ghost use Rattle.region_plan.specs.Free.{HasLetter};
+ghost use Rattle.pauli_product.specs.Signed.{HasLetter};
 ghost use Rattle.region_plan.specs.Answer.{Answers, LeastJoined};
 ghost use Rattle.least_region.specs.Least.{LeastAnswers, LeastOrJoined};
 

@@ -3,7 +3,7 @@
 ghost use Rattle.std.specs.Prelude.{◌≡◌, ℕ, ◌+◌, ◌-◌, ◌<◌, ◌≤◌, length, replicate, false, None, IfOk, List};
 ghost use Rattle.patch_layout.specs.declared.layout.Side.{Side as SideValue};
 ghost use Rattle.patch_layout.specs.Region.{wanted_sides};
-ghost use Rattle.region_plan.specs.Free.{HasLetter};
+ghost use Rattle.pauli_product.specs.Signed.{HasLetter};
 ghost use Rattle.region_plan.specs.Answer.{IsRegion};
 ghost use Rattle.least_region.specs.inside.Table.{Entry};
 ghost use Rattle.least_region.specs.inside.Growth.{HasRows};

@@ -2,7 +2,7 @@
 
 ghost use Rattle.std.specs.Prelude.{◌≡◌, ℕ, ◌+◌, ◌^◌, ◌<◌, ◌≤◌, length, replicate, IfOk};
 ghost use Rattle.patch_layout.specs.Spread.{OnGoal};
-ghost use Rattle.least_region.specs.inside.Table.{Least, Table};
+ghost use Rattle.least_region.specs.inside.Table.{LeastRow, Table};
 ghost use Rattle.least_region.specs.inside.Growth.{HasRows, OnFree, Begun, first_sizes};
 
 use crate::grow::{enqueue, grow, lower};
@@ -97,7 +97,7 @@ fn fill_row(
     requires above { row.old ≡ replicate (length free.now) (limit + 1) }
     requires size { length row.old ≡ length free.now }
     ensures { IfOk result (λ _.
-        Least layout.now free.now limit (OnGoal starts.now) rows.now (length rows.now) row.new) }
+        LeastRow layout.now free.now limit (OnGoal starts.now) rows.now (length rows.now) row.new) }
 {
     let _ = layout.size();
     let mut queue = Vec::new(alloc);
@@ -125,7 +125,7 @@ fn next_row(
     requires on_free { OnFree rows.now free.now limit }
     requires starts { (c : ℕ) → OnGoal starts.now c → c < length free.now }
     ensures { IfOk result
-        (Least layout.now free.now limit (OnGoal starts.now) rows.now (length rows.now)) }
+        (LeastRow layout.now free.now limit (OnGoal starts.now) rows.now (length rows.now)) }
 {
     let mut sizes = vec![in alloc; limit + 1; free.len()]?;
     fill_row(alloc, layout, free, limit, rows, starts, &mut sizes)?;

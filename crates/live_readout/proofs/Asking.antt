@@ -8,7 +8,8 @@ use Rattle.job_read.specs.Shelves.{Shelved}
 use Rattle.live_readout.specs.Commands.{Command}
 use Rattle.live_readout.specs.declared.fault.LiveFault.{LiveFault}
 use Rattle.live_readout.specs.declared.fault.LiveFault.TheVariants as fault
-use Rattle.live_readout.specs.Ends.{EndsBy, IsOutside, Refuses, texts}
+use Rattle.live_readout.specs.Ends.{Refuses, texts}
+use Rattle.live_readout.specs.inside.Ends.{EndsBy, IsOutside}
 
 pub by_job : (P : LiveFault → Type 0) (r : Shelved) (t : Command) → ((g : JobFault) → TellsUpTo (texts r t) g → job_faults.Refuses (texts r t) g → P (fault.Job g)) → (f : LiveFault) → Refuses r t f → P f
 by_job P r t at (fault.Job g) (told, refused) = at g told refused

@@ -6,7 +6,7 @@ use Rattle.region_plan.specs.Answer.{LeastJoined}
 use Rattle.board_core.specs.declared.Noted.{Noted}
 use Rattle.board_core.specs.declared.Entry.{Entry}
 use Rattle.board_core.specs.Laws.{Agrees}
-use Rattle.board_core.specs.Legal.{Job as BoardJob, Complete}
+use Rattle.board_core.specs.Legal.{BoardJob, Complete}
 use Rattle.board_core.specs.Position.{Position, past, note, IsLegal}
 use Rattle.schedule_text.specs.Text.{HasNumber}
 use Rattle.finish_run.specs.Finished.{GoesOn, by_zero, own_or_given}
@@ -15,7 +15,8 @@ use Rattle.board_write.specs.Laws.{CompleteBoardsAreSchedules}
 use Rattle.job_read.specs.declared.Job.{Job}
 use Rattle.job_read.specs.Kept.{IsJob}
 use Rattle.job_read.specs.Starts.{board_job, new_position}
-use Rattle.live_readout.specs.Carried.{AreByLiveWorkers, IsCarriedOut, IsLiveSchedule}
+use Rattle.live_readout.specs.Carried.{AreByLiveWorkers, IsLiveSchedule}
+use Rattle.live_readout.specs.inside.Carried.{IsCarriedOut}
 use Rattle.live_readout.proofs.Agreeing.{own_agrees}
 
 abbrev ByWorker : Noted → Type 0

@@ -6,7 +6,7 @@ use Rattle.std.specs.List.{All}
 use Rattle.board_core.specs.declared.Noted.{Noted}
 use Rattle.board_core.specs.Position.{Position, IsLegal}
 use Rattle.grid_lock.specs.Views.{opener}
-use Rattle.grid_lock.specs.Passes.{Known, Named, Closes, known}
+use Rattle.grid_lock.specs.Passes.{Known, NamedGrid, Closes, known}
 use Rattle.router_work.specs.inside.Workers.{HasSplit}
 use Rattle.router_work.proofs.Closings.{GrewBy, grew_alone, grew_none, grew_split}
 use Rattle.arrival_line.specs.declared.arrival.Arrival.{Arrival}
@@ -25,7 +25,7 @@ module _ (arrivals : List Arrival) (k : ℕ) (b : Position) where
   routes_by p x = record { added = x.0; is = x.1; by_workers = x.2; legal = x.3 }
 
   -- the board at the end is the one that was opened, with entries of workers
-  module _ (g : Named) (first : Known) (others : List Known) (p : Position) (c : Closes g first others p) where
+  module _ (g : NamedGrid) (first : Known) (others : List Known) (p : Position) (c : Closes g first others p) where
     -- after pass 0 split others off, and where it split off none
     pub routes_split : (n : ℕ) (start : Known) → g.opened ≡ b → start ≡ known g.id (opener b) → HasSplit start n first → All (λ (e : Noted). e.by ≡ 0) b.history → All (IsBack g ByWorker) others → RoutesLive arrivals k b p
     routes_split n start opened is split zeros back =
@@ -40,7 +40,7 @@ module _ (arrivals : List Arrival) (k : ℕ) (b : Position) where
   unmoved legal = routes_by b (grew_none ByWorker b legal)
 
 -- all passes are back, for the board that the grid was opened with
-pub back_of : (g : Named) (w : List (Option Kind)) (all : List Arrival) (k n : ℕ) (b : Position) (ps : List Known) → g.opened ≡ b → w ≡ wanted_of b → n ≡ k
+pub back_of : (g : NamedGrid) (w : List (Option Kind)) (all : List Arrival) (k n : ℕ) (b : Position) (ps : List Known) → g.opened ≡ b → w ≡ wanted_of b → n ≡ k
     → All (IsBack g (IsByLiveWorker (Serves w all) n (length (factories_of g.opened.job.grid)))) ps → All (IsBack g (ByWorker all k b)) ps
 back_of g w all k n b ps opened wanted count back =
     subst (λ (x : Position). All (IsBack g (IsByLiveWorker (Serves (wanted_of b) all) k (length (factories_of x.job.grid)))) ps) opened

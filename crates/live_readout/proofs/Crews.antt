@@ -8,14 +8,15 @@ use Rattle.std.specs.List.{All, range_with_len}
 use Rattle.source_model.specs.declared.Kind.{Kind}
 use Rattle.board_core.specs.declared.Noted.{Noted}
 use Rattle.patch_layout.specs.Grid.{Grid, HasStore}
-use Rattle.grid_lock.specs.Passes.{Known, Named, IsCalm, IsOf}
+use Rattle.grid_lock.specs.Passes.{Known, NamedGrid, IsCalm, IsPassOf}
 use Rattle.router_work.specs.Passing.{IsStepOf}
 use Rattle.router_work.specs.Routing.{HasFactory}
 use Rattle.router_work.specs.inside.Workers.{HasSplit}
 use Rattle.router_work.proofs.Crews.{numbers, only_added, own_number}
 use Rattle.arrival_line.specs.declared.arrival.Arrival.{Arrival}
 use Rattle.arrival_line.specs.Strays.{Delivers, Serves}
-use Rattle.live_readout.specs.Entries.{IsTaking, delivered_by}
+use Rattle.live_readout.specs.Entries.{IsTaking}
+use Rattle.live_readout.specs.inside.Entries.{delivered_by}
 use Rattle.live_readout.specs.Routes.{IsByLiveWorker, factories_of, has_factory}
 use Rattle.live_readout.specs.declared.worker.Worker.{Worker}
 use Rattle.live_readout.specs.declared.worker.Worker.TheVariants.{Route, Make}
@@ -23,7 +24,7 @@ use Rattle.live_readout.specs.inside.Workers.{AreWorked, Handing, HireMakers, Is
 use Rattle.live_readout.proofs.Handings.{handed}
 use Rattle.live_readout.proofs.Lists.{has_store}
 
-module _ {G : Type 0} (Fits : Arrival → Type 0) (g : Named) (k m : ℕ) where
+module _ {G : Type 0} (Fits : Arrival → Type 0) (g : NamedGrid) (k m : ℕ) where
   worked_back : (w v : Worker G) → IsHired g k m w → Worked w v → IsBack g (IsByLiveWorker Fits k m) (pass_of v)
   worked_back (Route r) (Route s) hired did = record {
     of = (did.same.0 ∙ hired.of.0, did.same.1 ∙ hired.of.1);
@@ -47,7 +48,7 @@ module _ {G : Type 0} (Fits : Arrival → Type 0) (g : Named) (k m : ℕ) where
       All-map (IsBack g (IsByLiveWorker Fits k m)) pass_of vs
       (λ i d l. worked_back (get_or ws i d) (get_or vs i d) (hired i d (let s = did.same in omega arith)) (did.each i d (let s = did.same in omega arith)))
 
-module _ {G : Type 0} (g : Named) (k m : ℕ) where
+module _ {G : Type 0} (g : NamedGrid) (k m : ℕ) where
   -- the makers after the routers
   pub all_hired : (before after : List (Worker G)) → All (IsHired g k m) before → length before ≡ k → HireMakers g m before after → All (IsHired g k m) after
   all_hired before after routers count makers =
@@ -62,7 +63,7 @@ made_after p q r k m none x y =
     omega arith
 
 -- ---- with the deliverer
-module _ (g : Named) (wanted : List (Option Kind)) (all : List Arrival) (k m : ℕ) where
+module _ (g : NamedGrid) (wanted : List (Option Kind)) (all : List Arrival) (k m : ℕ) where
   last_back : (p q : Known) → p.view.number ≡ k + m + 1 → IsLast g wanted all p q → IsBack g (IsByLiveWorker (Serves wanted all) k m) q
   last_back p q number last =
       let d = last.delivers in
@@ -74,19 +75,19 @@ module _ (g : Named) (wanted : List (Option Kind)) (all : List Arrival) (k m : �
       }
 
 -- the deliverer's pass after it was handed out
-pub last_pass : (g : Named) (wanted : List (Option Kind)) (all : List Arrival) (p q : Known) (d e : Handing) → d.grid ≡ g → d.pass ≡ p → p.view.mine ≡ []
-    → ◌≡◌ {A = Named × ℕ} (e.grid, e.pass.view.number) (d.grid, d.pass.view.number) → q ≡ e.pass → IsOf e.grid q → IsCalm q → All (λ (n : Noted). IsAnyHanding n.entry) q.view.mine
+pub last_pass : (g : NamedGrid) (wanted : List (Option Kind)) (all : List Arrival) (p q : Known) (d e : Handing) → d.grid ≡ g → d.pass ≡ p → p.view.mine ≡ []
+    → ◌≡◌ {A = NamedGrid × ℕ} (e.grid, e.pass.view.number) (d.grid, d.pass.view.number) → q ≡ e.pass → IsPassOf e.grid q → IsCalm q → All (λ (n : Noted). IsAnyHanding n.entry) q.view.mine
     → Delivers wanted all (delivered_by d.pass.view.mine) (delivered_by e.pass.view.mine) → IsLast g wanted all p q
 last_pass g wanted all p q d e grid pass new key is of calm any del = record {
-  of = subst (λ (z : Named). IsOf z q) (ap (λ (x : Named × ℕ). x.0) key ∙ grid) of;
+  of = subst (λ (z : NamedGrid). IsPassOf z q) (ap (λ (x : NamedGrid × ℕ). x.0) key ∙ grid) of;
   calm = calm;
-  number = ap (λ (z : Known). z.view.number) is ∙ (ap (λ (x : Named × ℕ). x.1) key ∙ ap (λ (z : Known). z.view.number) pass);
+  number = ap (λ (z : Known). z.view.number) is ∙ (ap (λ (x : NamedGrid × ℕ). x.1) key ∙ ap (λ (z : Known). z.view.number) pass);
   handing = any;
   delivers = subst (λ (m : List Arrival). Delivers wanted all m (delivered_by q.view.mine)) (ap (λ (z : Known). delivered_by z.view.mine) pass ∙ ap delivered_by new)
       (subst (λ (z : Known). Delivers wanted all (delivered_by d.pass.view.mine) (delivered_by z.view.mine)) (sym is) del);
 }
 
-module _ {G : Type 0} (g : Named) (wanted : List (Option Kind)) (all : List Arrival) (k m : ℕ) where
+module _ {G : Type 0} (g : NamedGrid) (wanted : List (Option Kind)) (all : List Arrival) (k m : ℕ) where
   -- all passes: those of the routers and makers, and the deliverer's
   pub all_passes : (ws : List (Worker G)) (p : Known) (ps : List Known) → All (IsHired g k m) ws → p.view.number ≡ k + m + 1
       → ((ended : List (Worker G)) × (last : Known) × AreWorked ws ended × IsLast g wanted all p last × (ps ≡ map pass_of ended ++ last ∷ []))
@@ -103,7 +104,7 @@ module _ {G : Type 0} (g : Named) (wanted : List (Option Kind)) (all : List Arri
 
 -- ---- factories
 -- the layout's factories are those of the grid's board
-pub factories_fit : (g : Named) (x : Grid) (fs : List ℕ) → x ≡ g.opened.job.grid → fs ≡ factories_of x → All (HasFactory g) fs
+pub factories_fit : (g : NamedGrid) (x : Grid) (fs : List ℕ) → x ≡ g.opened.job.grid → fs ≡ factories_of x → All (HasFactory g) fs
 factories_fit g x fs same is =
     All-same (HasFactory g) fs (factories_of x) is
     (All-weaker (λ (f : ℕ). has_factory x f ≡ true) (HasFactory g) (λ f t. subst (λ (z : Grid). (s : ℕ) × HasStore z f s) same (has_store x f t)) (factories_of x) (filter_passes (has_factory x) (range_with_len 0 16)))

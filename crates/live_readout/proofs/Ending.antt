@@ -18,9 +18,10 @@ use Rattle.job_read.specs.Shelves.{Shelved}
 use Rattle.live_readout.specs.Commands.{Command}
 use Rattle.live_readout.specs.declared.fault.LiveFault.{LiveFault}
 use Rattle.live_readout.specs.declared.fault.LiveFault.TheVariants as fault
-use Rattle.live_readout.specs.Carried.{IsCarriedOut}
+use Rattle.live_readout.specs.inside.Carried.{IsCarriedOut}
 use Rattle.live_readout.specs.Faults.{fault_of_write}
-use Rattle.live_readout.specs.Ends.{Ends, IsDone, IsOutside, Outputs, texts}
+use Rattle.live_readout.specs.Ends.{Ends, Outputs, texts}
+use Rattle.live_readout.specs.inside.Ends.{IsDone, IsOutside}
 use Rattle.live_readout.proofs.Carrying.{complete_for, live_schedule}
 
 -- what the command writes, and how far the output took it

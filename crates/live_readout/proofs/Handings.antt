@@ -23,7 +23,8 @@ use Rattle.router_work.specs.Waits.{OnlyRead, Waited}
 use Rattle.router_work.proofs.Passings.{passed_added, passed_busy, passed_found}
 use Rattle.arrival_line.specs.declared.arrival.Arrival.{Arrival}
 use Rattle.live_readout.specs.Listed.{arrival}
-use Rattle.live_readout.specs.Entries.{IsHanding, arrivals_in, delivered_by}
+use Rattle.live_readout.specs.Entries.{IsHanding}
+use Rattle.live_readout.specs.inside.Entries.{arrivals_in, delivered_by}
 use Rattle.live_readout.specs.inside.Workers.{IsAnyHanding, IsReleaseOf}
 use Rattle.live_readout.proofs.Passings.{passed_weaker}
 

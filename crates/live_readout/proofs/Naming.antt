@@ -1,7 +1,8 @@
 -- Words give one command.
 use Rattle.std.proofs.Common.{◌≡◌, ℕ, ◌<◌, ◌≤◌, ◌^◌, List, [], ◌∷◌, decimal, arith}
 use Rattle.std.proofs.lemmas.Fmt.{decimal_injective}
-use Rattle.live_readout.specs.Commands.{Command, command, live_words, IsCommand}
+use Rattle.live_readout.specs.Commands.{Command, live_words, IsCommand}
+use Rattle.live_readout.specs.inside.Commands.{command}
 
 pub same_number : (m n : ℕ) → m < 2 ^ 32 → n < 2 ^ 32 → decimal m ≡ decimal n → m ≡ n
 same_number m n h k e = decimal_injective m n (omega arith) (omega arith) e

@@ -1,6 +1,5 @@
 -- The words of a live run.
 use Rattle.std.specs.Prelude.{ℕ, ◌≤◌, List, [], ◌∷◌, codes, decimal}
-use Rattle.live_readout.specs.declared.words.LiveCommand.{LiveCommand}
 
 -- the names of a circuit, a layout and outcomes, and the number k of routers
 pub record Command : Type 0 where
@@ -9,9 +8,6 @@ pub record Command : Type 0 where
   pub outcomes : List ℕ
   pub k : ℕ
 
-abbrev pub command : List ℕ → List ℕ → List ℕ → ℕ → Command
-command circuit layout outcomes k = record { circuit = circuit; layout = layout; outcomes = outcomes; k = k }
-
 -- the words that give it
 abbrev pub live_words : Command → List (List ℕ)
 live_words t = codes "live" ∷ t.circuit ∷ t.layout ∷ t.outcomes ∷ decimal t.k ∷ []
@@ -19,7 +15,3 @@ live_words t = codes "live" ∷ t.circuit ∷ t.layout ∷ t.outcomes ∷ decima
 -- 1 to 16 routers
 abbrev pub IsCommand : Command → Type 0
 IsCommand t = (1 ≤ t.k) × (t.k ≤ 16)
-
--- what an answered command says
-abbrev pub command_of : LiveCommand → Command
-command_of c = command c.circuit.now c.layout.now c.outcomes.now c.k

@@ -1,5 +1,5 @@
 -- How the command ends: what it writes, or why it writes nothing.
-use Rattle.std.specs.Prelude.{◌≡◌, ◌⊎◌, ℕ, ◌≤◌, List, codes, MatchResult, Result, Ok, Err}
+use Rattle.std.specs.Prelude.{◌≡◌, ◌⊎◌, ℕ, ◌≤◌, List, codes, Result, Ok, Err}
 use Rattle.fault_lines.specs.Sinks.{Writing, Untouched, Took, TookPart, Said}
 use Rattle.job_read.specs.declared.Job.{Job}
 use Rattle.job_read.specs.Jobs as job_faults
@@ -70,30 +70,15 @@ pub record CarriesOut (words : List (List ℕ)) (r : Shelved) (w e : Writing) (s
 
 -- ---- told texts
 
--- the shelf or the output failed, or memory ran out
-abbrev pub IsOutside : LiveFault → Type 0
-IsOutside (fault.Job f) = job_faults.IsOutside f
-IsOutside fault.Unwritten = Unit {0}
-IsOutside fault.Memory = Unit {0}
-
 -- all texts are told, and accepted
 abbrev pub Accepts : Shelved → Command → Type 0
 Accepts r t = (job : Job) × TellsAll (texts r t) × StandsForJob (texts r t) job
-
--- all was done, or the outside is the cause that it wasn't
-abbrev pub IsDone : Result (Unit {0}) LiveFault → Type 0
-IsDone (Ok done) = Unit {0}
-IsDone (Err f) = IsOutside f
 
 -- a text is told and refused with this fault, and those before it are told and accepted
 abbrev pub Refuses : Shelved → Command → LiveFault → Type 0
 Refuses r t (fault.Job f) = TellsUpTo (texts r t) f × job_faults.Refuses (texts r t) f
 Refuses r t fault.Unwritten = ⊥
 Refuses r t fault.Memory = ⊥
-
--- it ended with this fault, or with one of the outside
-abbrev pub EndsBy : {A : Type 0} → LiveFault → Result A LiveFault → Type 0
-EndsBy f end = MatchResult end (λ a. ⊥) (λ e. (e ≡ f) ⊎ IsOutside e)
 
 -- the fault's status, and its line on `err`, or a status that the outside is the cause of: 7, 8 or 9
 abbrev pub AnswersBy : Writing → Command → LiveFault → ℕ → Type 0

@@ -3,7 +3,7 @@
 ghost use Rattle.std.specs.Prelude.{◌≡◌, IfOk};
 ghost use Rattle.pauli_product.specs.Signed.{IsNotIdentity};
 ghost use Rattle.board_core.specs.Shows.{IsMadeFor};
-ghost use Rattle.grid_lock.specs.Passes.{IsOf};
+ghost use Rattle.grid_lock.specs.Passes.{IsPassOf};
 ghost use Rattle.router_work.specs.Passing.{Passed};
 ghost use Rattle.live_readout.specs.Entries.{IsTaking};
 ghost use Rattle.live_readout.specs.inside.Workers.{IsReleaseOf};
@@ -17,7 +17,7 @@ use source_model::Given;
 
 /// The history's length.
 pub(crate) fn length_now(grid: &Grid, pass: &mut Pass) -> u32
-    requires grid { IsOf grid.now pass.old }
+    requires grid { IsPassOf grid.now pass.old }
     ensures { Passed IsTaking pass.old pass.new }
 {
     grid.length(pass)
@@ -25,7 +25,7 @@ pub(crate) fn length_now(grid: &Grid, pass: &mut Pass) -> u32
 
 // What a product waits on.
 fn ask(grid: &Grid, pass: &mut Pass, p: u32) -> TryWaits
-    requires grid { IsOf grid.now pass.old }
+    requires grid { IsPassOf grid.now pass.old }
     ensures { Passed IsTaking pass.old pass.new }
 {
     waits(grid, pass, p)
@@ -33,7 +33,7 @@ fn ask(grid: &Grid, pass: &mut Pass, p: u32) -> TryWaits
 
 /// Whether a product waits on an earlier one. Where the turn was held all along, that isn't known, and the answer is no.
 pub(crate) fn is_held_back(grid: &Grid, pass: &mut Pass, p: u32) -> bool
-    requires grid { IsOf grid.now pass.old }
+    requires grid { IsPassOf grid.now pass.old }
     ensures { Passed IsTaking pass.old pass.new }
 {
     let answer = ask(grid, pass, p);
@@ -42,7 +42,7 @@ pub(crate) fn is_held_back(grid: &Grid, pass: &mut Pass, p: u32) -> bool
 
 /// Looks at a product.
 pub(crate) fn look_at(grid: &Grid, pass: &mut Pass, p: u32, shown: &mut Look) -> Result<(), TryLook>
-    requires grid { IsOf grid.now pass.old }
+    requires grid { IsPassOf grid.now pass.old }
     requires made { IsMadeFor grid.now.opened shown.old }
     ensures passed { Passed IsTaking pass.old pass.new }
     ensures made { IsMadeFor grid.now.opened shown.new }
@@ -58,7 +58,7 @@ pub(crate) fn claim_by(
     plan: Plan,
     node: Node<Noted>,
 ) -> Result<Claimed, TryClaim>
-    requires grid { IsOf grid.now pass.old }
+    requires grid { IsPassOf grid.now pass.old }
     ensures { Passed IsTaking pass.old pass.new }
 {
     claim(grid, pass, plan, node)
@@ -71,7 +71,7 @@ pub(crate) fn settle(
     p: u32,
     node: Node<Noted>,
 ) -> Result<u32, TryDeliver>
-    requires grid { IsOf grid.now pass.old }
+    requires grid { IsPassOf grid.now pass.old }
     ensures { Passed IsTaking pass.old pass.new }
 {
     deliver(grid, pass, p, Given::Settled, node)
@@ -84,7 +84,7 @@ pub(crate) fn let_go(
     p: u32,
     node: Node<Noted>,
 ) -> Result<u32, TryRelease>
-    requires grid { IsOf grid.now pass.old }
+    requires grid { IsPassOf grid.now pass.old }
     ensures { Passed (IsReleaseOf p) pass.old pass.new }
 {
     release(grid, pass, p, node)

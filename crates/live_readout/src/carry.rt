@@ -5,7 +5,8 @@ ghost use Rattle.source_model.specs.Statics.{AreOutcomesOf};
 ghost use Rattle.board_core.specs.Laws.{Agrees};
 ghost use Rattle.board_core.specs.Position.{past, IsLegal};
 ghost use Rattle.job_read.specs.Kept.{IsJob};
-ghost use Rattle.live_readout.specs.Carried.{AreByLiveWorkers, IsCarriedOut};
+ghost use Rattle.live_readout.specs.Carried.{AreByLiveWorkers};
+ghost use Rattle.live_readout.specs.inside.Carried.{IsCarriedOut};
 
 use crate::listed::Listed;
 use crate::route::route_live;

@@ -3,7 +3,7 @@
 ghost use Rattle.std.specs.Prelude.{◌≡◌, ◌+◌, ◌<◌, ◌≤◌, [], List, All, length, map, vec_capacity};
 ghost use Rattle.board_core.specs.Shows.{IsMadeFor};
 ghost use Rattle.grid_lock.specs.Views.{dealing, newcomer};
-ghost use Rattle.grid_lock.specs.Passes.{IsOf, known};
+ghost use Rattle.grid_lock.specs.Passes.{IsPassOf, known};
 ghost use Rattle.number_share.specs.Hands as shares;
 ghost use Rattle.router_work.specs.Routing.{HasFactory};
 ghost use Rattle.router_work.specs.inside.Workers.{HasSplit, IsFirst};
@@ -32,7 +32,7 @@ pub(crate) fn hire_routers<'a, G: Gate>(
     requires shared { IsShared shared.now }
     requires first { IsFirst shared.now.grid.now 0 first.old }
     requires gates { length gates.items ≤ ROUTERS }
-    requires hands { All (shares.IsOf shared.now.share.now) hands.items }
+    requires hands { All (shares.IsHandOf shared.now.share.now) hands.items }
     requires hand_each { length hands.items ≡ length gates.items }
     requires looks { All (IsMadeFor shared.now.grid.now.opened) looks.items }
     requires look_each { length looks.items ≡ length gates.items }
@@ -90,7 +90,7 @@ pub(crate) fn hire_makers<'a, G: Gate>(
 
 /// The next pass. There is always memory for it.
 pub(crate) fn next_pass(grid: &Grid, first: &mut Pass) -> Pass
-    requires grid { IsOf grid.now first.old }
+    requires grid { IsPassOf grid.now first.old }
     requires first { first.old.view.number ≡ 0 }
     requires few { first.old.view.made < 63 }
     ensures first { first.new ≡ known first.old.grid (dealing first.old.view) }

@@ -4,9 +4,9 @@ ghost use Rattle.std.specs.Prelude.{◌≡◌, [], List, All};
 ghost use Rattle.source_model.specs.declared.Given.TheVariants as outcomes;
 ghost use Rattle.arrival_line.specs.declared.arrival.Arrival.{Arrival as Arrivals};
 ghost use Rattle.arrival_line.specs.Made.{made_after};
-ghost use Rattle.grid_lock.specs.Passes.{IsCalm, IsOf};
+ghost use Rattle.grid_lock.specs.Passes.{IsCalm, IsPassOf};
 ghost use Rattle.router_work.specs.Passing.{Passed};
-ghost use Rattle.live_readout.specs.Entries.{delivered_by};
+ghost use Rattle.live_readout.specs.inside.Entries.{delivered_by};
 ghost use Rattle.live_readout.specs.inside.Workers.{IsAnyHanding};
 
 use crate::calls::let_go;
@@ -32,21 +32,21 @@ pub(crate) struct Deliverer<'a> {
 impl<'a> Model for Deliverer<'a> {
     ghost use Rattle.std.specs.Prelude.{All};
     ghost use Rattle.board_core.specs.declared.Noted.{Noted as Entries};
-    ghost use Rattle.grid_lock.specs.Passes.{IsOf};
+    ghost use Rattle.grid_lock.specs.Passes.{IsPassOf};
     ghost use Rattle.live_readout.specs.inside.Workers.{Handing, handing, IsAnyHanding};
 
     ghost Value = { Handing };
 
     ghost view = { λ d. handing d.grid.now d.pass };
 
-    ghost invariant = { λ d. IsOf d.grid.now d.pass
+    ghost invariant = { λ d. IsPassOf d.grid.now d.pass
         × All (λ (n : Entries). IsAnyHanding n.entry) d.pass.view.mine };
 }
 
 impl<'a> Deliverer<'a> {
     /// A deliverer with a pass of the grid that has made nothing.
     pub(crate) fn new(alloc: Global, grid: &'a Grid, pass: Pass) -> Deliverer<'a>
-        requires pass { IsOf grid.now pass }
+        requires pass { IsPassOf grid.now pass }
         requires new { pass.view.mine ≡ [] }
         ensures grid { result.grid ≡ grid.entry.now }
         ensures pass { result.pass ≡ pass }
@@ -62,7 +62,7 @@ impl<'a> Deliverer<'a> {
     /// The pass.
     pub(crate) fn into_pass(self) -> Pass
         ensures pass { result ≡ self.entry.pass }
-        ensures grid { IsOf self.entry.grid result }
+        ensures grid { IsPassOf self.entry.grid result }
         ensures calm { IsCalm result }
         ensures made { All (λ n. IsAnyHanding n.entry) result.view.mine }
     {
@@ -73,10 +73,10 @@ impl<'a> Deliverer<'a> {
 
 impl<'a> Courier for Deliverer<'a> {
     ghost use Rattle.std.specs.Prelude.{ℕ};
-    ghost use Rattle.grid_lock.specs.Passes.{Named};
-    ghost use Rattle.live_readout.specs.Entries.{delivered_by};
+    ghost use Rattle.grid_lock.specs.Passes.{NamedGrid};
+    ghost use Rattle.live_readout.specs.inside.Entries.{delivered_by};
 
-    ghost Key = { Named × ℕ };
+    ghost Key = { NamedGrid × ℕ };
 
     ghost key = { λ d. (d.grid, d.pass.view.number) };
 
@@ -101,7 +101,7 @@ fn deliver_in_place(
     arrival: Arrival,
     patience: &mut u32,
 ) -> Delivery
-    requires grid { IsOf grid.now pass.old }
+    requires grid { IsPassOf grid.now pass.old }
     ensures passed { Passed IsAnyHanding pass.old pass.new }
     ensures made { delivered_by pass.new.view.mine
         ≡ made_after (delivered_by pass.old.view.mine) arrival result }
@@ -123,7 +123,7 @@ fn deliver_in_place(
 
 // Tries to deliver an outcome, and to release its product then.
 fn try_outcome(alloc: Global, grid: &Grid, pass: &mut Pass, arrival: Arrival) -> Delivery
-    requires grid { IsOf grid.now pass.old }
+    requires grid { IsPassOf grid.now pass.old }
     ensures passed { Passed IsAnyHanding pass.old pass.new }
     ensures made { delivered_by pass.new.view.mine
         ≡ made_after (delivered_by pass.old.view.mine) arrival result }
@@ -137,7 +137,7 @@ fn try_outcome(alloc: Global, grid: &Grid, pass: &mut Pass, arrival: Arrival) ->
 
 // The same for an outcome of a product that takes a region.
 fn hand_over(alloc: Global, grid: &Grid, pass: &mut Pass, arrival: Arrival) -> Delivery
-    requires grid { IsOf grid.now pass.old }
+    requires grid { IsPassOf grid.now pass.old }
     requires region { arrival.given ≡ outcomes.Settled → ⊥ }
     ensures passed { Passed IsAnyHanding pass.old pass.new }
     ensures made { delivered_by pass.new.view.mine

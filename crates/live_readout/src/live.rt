@@ -4,8 +4,10 @@ ghost use Rattle.std.specs.Prelude.{◌≡◌, ℕ, ◌≤◌, List};
 ghost use Rattle.fault_lines.specs.Sinks.{writing};
 ghost use Rattle.job_read.specs.Shelves.{shelved};
 ghost use Rattle.live_readout.specs.declared.fault.LiveFault.{LiveFault as Fault_of};
-ghost use Rattle.live_readout.specs.Commands.{IsCommand, command_of};
-ghost use Rattle.live_readout.specs.Ends.{Accepts, Ends, EndsBy, IsDone, Refuses};
+ghost use Rattle.live_readout.specs.Commands.{IsCommand};
+ghost use Rattle.live_readout.specs.inside.Commands.{command_of};
+ghost use Rattle.live_readout.specs.Ends.{Accepts, Ends, Refuses};
+ghost use Rattle.live_readout.specs.inside.Ends.{EndsBy, IsDone};
 
 use crate::carry::carry_out;
 use crate::fault::LiveFault;

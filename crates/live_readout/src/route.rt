@@ -5,7 +5,7 @@ ghost use Rattle.source_model.specs.Statics.{kinds_of};
 ghost use Rattle.board_core.specs.declared.Noted.{Noted as Entries};
 ghost use Rattle.board_core.specs.Laws.{ProductsOfLength};
 ghost use Rattle.board_core.specs.Position.{IsLegal};
-ghost use Rattle.grid_lock.specs.Passes.{IsOf, Closes};
+ghost use Rattle.grid_lock.specs.Passes.{IsPassOf, Closes};
 ghost use Rattle.router_work.specs.inside.Workers.{HasSplit, IsFirst, IsLookOf};
 ghost use Rattle.arrival_line.specs.Strays.{Serves, strays_of};
 ghost use Rattle.live_readout.specs.Routes.{RoutesLive, factories_of, has_factory};
@@ -160,9 +160,9 @@ fn qubits_of(board: &Board) -> u32
 
 // The board at the end.
 fn close(grid: Grid, first: Pass, others: Vec<Pass>) -> Board
-    requires grid { IsOf grid first }
+    requires grid { IsPassOf grid first }
     requires first { first.view.number ≡ 0 }
-    requires others { All (IsOf grid) others.items }
+    requires others { All (IsPassOf grid) others.items }
     requires all { length others.items ≡ first.view.made }
     ensures { Closes grid first others.items result }
 {
@@ -242,7 +242,7 @@ fn run<T: Threads + Wait + Sync, R: Readout, G: Gate>(
     workers: Vec<Worker<'_, G>>,
     passes: Vec<Pass>,
 ) -> Brought
-    requires pass { IsOf grid.now pass }
+    requires pass { IsPassOf grid.now pass }
     requires new { pass.view.mine ≡ [] }
     requires few { length (R.left readout) < 2 ^ 32 }
     requires some { 0 < length workers.items }

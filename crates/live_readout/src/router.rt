@@ -3,7 +3,7 @@
 ghost use Rattle.std.specs.Prelude.{◌≡◌, ◌<◌, ◌≤◌, length};
 ghost use Rattle.std.specs.List.{Contains};
 ghost use Rattle.board_core.specs.Shows.{IsMadeFor};
-ghost use Rattle.grid_lock.specs.Passes.{IsOf};
+ghost use Rattle.grid_lock.specs.Passes.{IsPassOf};
 ghost use Rattle.number_share.specs.Hands as shares;
 ghost use Rattle.router_work.specs.Passing.{Passed};
 ghost use Rattle.live_readout.specs.Entries.{IsTaking};
@@ -48,7 +48,7 @@ pub(crate) struct LiveRouter<'a, G: Gate> {
 }
 
 impl<'a, G: Gate> Model for LiveRouter<'a, G> {
-    ghost use Rattle.grid_lock.specs.Passes.{IsOf, Known};
+    ghost use Rattle.grid_lock.specs.Passes.{IsPassOf, Known};
     ghost use Rattle.board_core.specs.Shows.{IsMadeFor};
     ghost use Rattle.number_share.specs.Hands as shares;
     ghost use Rattle.live_readout.specs.inside.Shared.{IsShared};
@@ -57,8 +57,8 @@ impl<'a, G: Gate> Model for LiveRouter<'a, G> {
 
     ghost view = { λ r. r.pass };
 
-    ghost invariant = { λ r. IsShared r.shared.now × IsOf r.shared.now.grid.now r.pass
-        × shares.IsOf r.shared.now.share.now r.hand
+    ghost invariant = { λ r. IsShared r.shared.now × IsPassOf r.shared.now.grid.now r.pass
+        × shares.IsHandOf r.shared.now.share.now r.hand
         × IsMadeFor r.shared.now.grid.now.opened r.look };
 }
 
@@ -79,8 +79,8 @@ impl<'a, G: Gate> LiveRouter<'a, G> {
         gate: G,
     ) -> LiveRouter<'a, G>
         requires shared { IsShared shared.now }
-        requires pass { IsOf shared.now.grid.now pass }
-        requires hand { shares.IsOf shared.now.share.now hand }
+        requires pass { IsPassOf shared.now.grid.now pass }
+        requires hand { shares.IsHandOf shared.now.share.now hand }
         requires look { IsMadeFor shared.now.grid.now.opened look }
         ensures { result ≡ pass }
     {
@@ -124,11 +124,11 @@ fn take_numbers<G: Gate>(
     gate: &mut G,
 )
     requires shared { IsShared shared.now }
-    requires pass { IsOf shared.now.grid.now pass.old }
-    requires hand { shares.IsOf shared.now.share.now hand.old }
+    requires pass { IsPassOf shared.now.grid.now pass.old }
+    requires hand { shares.IsHandOf shared.now.share.now hand.old }
     requires look { IsMadeFor shared.now.grid.now.opened look.old }
     ensures passed { Passed IsTaking pass.old pass.new }
-    ensures hand { shares.IsOf shared.now.share.now hand.new }
+    ensures hand { shares.IsHandOf shared.now.share.now hand.new }
     ensures look { IsMadeFor shared.now.grid.now.opened look.new }
 {
     let _ = pass.number();
@@ -182,7 +182,7 @@ fn try_number<G: Gate>(
     patience: &mut u32,
 ) -> Tried
     requires shared { IsShared shared.now }
-    requires pass { IsOf shared.now.grid.now pass.old }
+    requires pass { IsPassOf shared.now.grid.now pass.old }
     requires look { IsMadeFor shared.now.grid.now.opened look.old }
     requires below { number < length shared.now.kinds.now }
     ensures passed { Passed IsTaking pass.old pass.new }
@@ -208,7 +208,7 @@ fn try_in_place<G: Gate>(
     patience: &mut u32,
 ) -> Tried
     requires shared { IsShared shared.now }
-    requires pass { IsOf shared.now.grid.now pass.old }
+    requires pass { IsPassOf shared.now.grid.now pass.old }
     requires look { IsMadeFor shared.now.grid.now.opened look.old }
     requires below { number < length shared.now.kinds.now }
     ensures passed { Passed IsTaking pass.old pass.new }
@@ -237,7 +237,7 @@ fn begin<G: Gate>(
     number: u32,
 ) -> Tried
     requires shared { IsShared shared.now }
-    requires pass { IsOf shared.now.grid.now pass.old }
+    requires pass { IsPassOf shared.now.grid.now pass.old }
     requires look { IsMadeFor shared.now.grid.now.opened look.old }
     requires below { number < length shared.now.kinds.now }
     ensures passed { Passed IsTaking pass.old pass.new }
@@ -258,7 +258,7 @@ fn claim_next<G: Gate>(
     number: u32,
 ) -> Tried
     requires shared { IsShared shared.now }
-    requires pass { IsOf shared.now.grid.now pass.old }
+    requires pass { IsPassOf shared.now.grid.now pass.old }
     requires look { IsMadeFor shared.now.grid.now.opened look.old }
     ensures passed { Passed IsTaking pass.old pass.new }
     ensures look { IsMadeFor shared.now.grid.now.opened look.new }
@@ -274,7 +274,7 @@ fn claim_next<G: Gate>(
 
 // Settles a settled product.
 fn settle_number<G: Gate>(shared: &Shared<'_>, pass: &mut Pass, gate: &mut G, number: u32) -> Tried
-    requires pass { IsOf shared.now.grid.now pass.old }
+    requires pass { IsPassOf shared.now.grid.now pass.old }
     ensures { Passed IsTaking pass.old pass.new }
 {
     let _ = pass.number();
@@ -309,7 +309,7 @@ fn claim_number<G: Gate>(
     number: u32,
 ) -> Tried
     requires shared { IsShared shared.now }
-    requires pass { IsOf shared.now.grid.now pass.old }
+    requires pass { IsPassOf shared.now.grid.now pass.old }
     requires look { IsMadeFor shared.now.grid.now.opened look.old }
     ensures passed { Passed IsTaking pass.old pass.new }
     ensures look { IsMadeFor shared.now.grid.now.opened look.new }
@@ -344,7 +344,7 @@ fn plan_number<G: Gate>(
     number: u32,
 ) -> Result<Planned, Tried>
     requires shared { IsShared shared.now }
-    requires pass { IsOf shared.now.grid.now pass.old }
+    requires pass { IsPassOf shared.now.grid.now pass.old }
     requires look { IsMadeFor shared.now.grid.now.opened look.old }
     ensures passed { Passed IsTaking pass.old pass.new }
     ensures look { IsMadeFor shared.now.grid.now.opened look.new }
@@ -396,7 +396,7 @@ fn claim_region<G: Gate>(
     number: u32,
     plan: Plan,
 ) -> Tried
-    requires pass { IsOf shared.now.grid.now pass.old }
+    requires pass { IsPassOf shared.now.grid.now pass.old }
     ensures { Passed IsTaking pass.old pass.new }
 {
     let _ = pass.number();
@@ -434,7 +434,7 @@ fn says_stop_to_answer<G: Gate>(
     claimed: bool,
     held: bool,
 ) -> bool
-    requires pass { IsOf shared.now.grid.now pass.old }
+    requires pass { IsPassOf shared.now.grid.now pass.old }
     ensures { Passed IsTaking pass.old pass.new }
 {
     let length = shared.grid.length(pass);

@@ -2,7 +2,7 @@
 
 ghost use Rattle.std.specs.Prelude.{◌≡◌, ◌≤◌};
 ghost use Rattle.fault_lines.specs.Sinks.{Said, writing};
-ghost use Rattle.live_readout.specs.Commands.{command_of};
+ghost use Rattle.live_readout.specs.inside.Commands.{command_of};
 ghost use Rattle.live_readout.specs.Faults.{fault_line, status_of};
 
 use crate::fault::LiveFault;

@@ -1,7 +1,8 @@
 //! The words of a live run.
 
 ghost use Rattle.std.specs.Prelude.{◌≡◌, ◌≢◌, ℕ, ◌≤◌, List, [], ◌∷◌, map, codes, IfSome, IfNone, IsSomeAnd, string_bytes, decimal as decimal_text};
-ghost use Rattle.live_readout.specs.Commands.{Command, IsCommand, command_of, live_words};
+ghost use Rattle.live_readout.specs.Commands.{Command, IsCommand, live_words};
+ghost use Rattle.live_readout.specs.inside.Commands.{command_of};
 
 use patch_base::{ROUTERS, decimal};
 

@@ -12,10 +12,10 @@ use Rattle.magic_pool.specs.declared.Stepped.{Stepped}
 use Rattle.magic_pool.specs.declared.Stepped.TheVariants.{Running, Made, Failed}
 use Rattle.magic_pool.specs.declared.StepRefused.TheVariants.{NoFactory, Stocked}
 use Rattle.magic_pool.specs.declared.factory.Factory.{Factory}
-use Rattle.magic_pool.specs.Recount.{steps_of, is_listed, is_made, makers_of, ready_of, first_of_list}
+use Rattle.magic_pool.specs.Recount.{step_count, is_listed, is_made, makers_of, ready_of, first_of_list}
 use Rattle.magic_pool.specs.Pooled.{Pooled, Recounts, HasFewer, store_of, outcome_of, answer_of, step_answer}
 use Rattle.magic_pool.specs.Makers.{IsMaker}
-use Rattle.magic_pool.specs.Factories.{Serves, IsFresh, AllServe, outcome_here, ready_after}
+use Rattle.magic_pool.specs.inside.Factories.{Serves, IsFresh, AllServe, outcome_here, ready_after}
 use Rattle.magic_pool.proofs.Readiness.{steps_push, made_more, made_le, ready_push, ready_take, ready_take_other, taken_other, first_made}
 
 -- a pool by what it stores
@@ -63,9 +63,9 @@ none_left [] e = refl
 none_left (x ∷ l) e = cc
 
 recounts_step : (p q : Pooled) (steps taken : List ℕ) (f : ℕ) → Recounts p steps taken → q.fails ≡ p.fails
-    → q.made ≡ p.made + (if is_made p.fails f (steps_of f steps + 1) then 1 else 0)
+    → q.made ≡ p.made + (if is_made p.fails f (step_count f steps + 1) then 1 else 0)
     → ((g : ℕ) → get_or q.steps g 0 ≡ get_or p.steps g 0 + (if f == g then 1 else 0))
-    → ((g : ℕ) → get_or q.ready g [] ≡ (if is_made p.fails f (steps_of f steps + 1) && f == g then get_or p.ready g [] ++ p.made ∷ [] else get_or p.ready g []))
+    → ((g : ℕ) → get_or q.ready g [] ≡ (if is_made p.fails f (step_count f steps + 1) && f == g then get_or p.ready g [] ++ p.made ∷ [] else get_or p.ready g []))
     → Recounts q (steps ++ f ∷ []) taken
 recounts_step p q steps taken f r fails made counts readies = record {
   made = rw (fails, made, r.made) (sym (made_more p.fails steps f));
@@ -124,7 +124,7 @@ answered : (makers : List Maker) (fails : List Fail) (made : ℕ) (xs : List Fac
     → Recounts (pooled makers fails made xs) steps taken → step_answer makers fails steps taken f ≡ answer_of fails f x.store x.steps made (length x.ready.items)
 answered makers fails made xs f x steps taken all below is r =
     let inside : f < length xs = omega (arith, all.count) in
-    answer_same fails f (store_of makers f) x.store (steps_of f steps) x.steps (length (makers_of fails steps)) made (length (ready_of fails steps taken f)) (length x.ready.items)
+    answer_same fails f (store_of makers f) x.store (step_count f steps) x.steps (length (makers_of fails steps)) made (length (ready_of fails steps taken f)) (length x.ready.items)
     (sym (served makers fails xs f x all below is).store)
     (sym (r.counts f) ∙ counted_at xs f x inside is)
     (sym r.made)
@@ -132,7 +132,7 @@ answered makers fails made xs f x steps taken all below is r =
 
 pub answers_absent : (makers : List Maker) (fails : List Fail) (f : ℕ) (steps taken : List ℕ) → All IsMaker makers → 16 ≤ f → Err NoFactory ≡ step_answer makers fails steps taken f
 answers_absent makers fails f steps taken each beyond =
-    sym (answer_none fails f (store_of makers f) (steps_of f steps) (length (makers_of fails steps)) (length (ready_of fails steps taken f)) (store_of-absent makers f each beyond))
+    sym (answer_none fails f (store_of makers f) (step_count f steps) (length (makers_of fails steps)) (length (ready_of fails steps taken f)) (store_of-absent makers f each beyond))
 
 pub answers_stocked : (makers : List Maker) (fails : List Fail) (made : ℕ) (xs : List Factory) (f ready : ℕ) (x : Factory) (steps taken : List ℕ) → AllServe makers fails xs → f < 16 → x ≡ get_or xs f x
     → Recounts (pooled makers fails made xs) steps taken → (x.store ≡ 0 → ⊥) → (x.steps % 11 == 0 && nat_le x.store (length x.ready.items)) ≡ true → ready ≡ length x.ready.items
@@ -175,7 +175,7 @@ pub few_steps : (makers : List Maker) (fails : List Fail) (made : ℕ) (xs : Lis
     → HasFewer (pooled makers fails made xs) most → x.steps < most
 few_steps makers fails made xs f most x all below is few =
     let inside : f < length xs = omega (arith, all.count) in
-    let here : x.steps ≡ steps_of f few.0 = sym (counted_at xs f x inside is) ∙ few.2.counts f in
+    let here : x.steps ≡ step_count f few.0 = sym (counted_at xs f x inside is) ∙ few.2.counts f in
     omega (arith, few.3, count_by-le-length (λ g. g == f) few.0)
 
 pub few_made : (makers : List Maker) (fails : List Fail) (made : ℕ) (xs : List Factory) (most : ℕ) → HasFewer (pooled makers fails made xs) most → made < most
@@ -209,7 +209,7 @@ pub stepped_on : (makers : List Maker) (fails : List Fail) (made more : ℕ) (xs
     → Recounts (pooled makers fails more (set xs f y)) (steps ++ f ∷ []) taken
 stepped_on makers fails made more xs f x y steps taken all below is r made_is counts readies =
     let inside : f < length xs = omega (arith, all.count) in
-    let before : x.steps ≡ steps_of f steps = sym (counted_at xs f x inside is) ∙ r.counts f in
+    let before : x.steps ≡ step_count f steps = sym (counted_at xs f x inside is) ∙ r.counts f in
     recounts_step (pooled makers fails made xs) (pooled makers fails more (set xs f y)) steps taken f r refl
     (rw (← before) made_is)
     (λ g. rw (map-set (λ z. z.steps) xs f y) (looked_set (map (λ z. z.steps) xs) f g y.steps 0 (get_or (map (λ z. z.steps) xs) g 0 + (if f == g then 1 else 0))

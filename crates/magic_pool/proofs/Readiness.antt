@@ -7,29 +7,29 @@ use Rattle.std.proofs.lemmas.Grind.{common_steps}
 use Rattle.std.proofs.lemmas.List.Kept.{AllPairs-cons}
 use Rattle.std.proofs.lemmas.List.Elements.{All-nil, All-cons}
 use Rattle.magic_pool.specs.declared.Fail.{Fail}
-use Rattle.magic_pool.specs.Recount.{steps_of, is_made, makers_after, makers_of, is_taken, ready_from, ready_of, first_of_list}
+use Rattle.magic_pool.specs.Recount.{step_count, is_made, makers_after, makers_of, is_taken, ready_from, ready_of, first_of_list}
 use Rattle.magic_pool.specs.Given.{Event, given_after}
 use Rattle.magic_pool.specs.Given as given
 
 -- ---- steps and makers
-pub steps_push : (f g : ℕ) (before : List ℕ) → steps_of f (before ++ g ∷ []) ≡ steps_of f before + (if g == f then 1 else 0)
+pub steps_push : (f g : ℕ) (before : List ℕ) → step_count f (before ++ g ∷ []) ≡ step_count f before + (if g == f then 1 else 0)
 steps_push f g before = grind (arith, common_steps)
 
-makers_after-push : (fails : List Fail) (before fs : List ℕ) (g : ℕ) → makers_after fails before (fs ++ g ∷ []) ≡ makers_after fails before fs ++ (if is_made fails g (steps_of g (before ++ fs) + 1) then g ∷ [] else [])
-makers_after-push fails before [] g = ap (λ l. if is_made fails g (steps_of g l + 1) then g ∷ [] else []) (sym (append-nil before))
+makers_after-push : (fails : List Fail) (before fs : List ℕ) (g : ℕ) → makers_after fails before (fs ++ g ∷ []) ≡ makers_after fails before fs ++ (if is_made fails g (step_count g (before ++ fs) + 1) then g ∷ [] else [])
+makers_after-push fails before [] g = ap (λ l. if is_made fails g (step_count g l + 1) then g ∷ [] else []) (sym (append-nil before))
 makers_after-push fails before (x ∷ fs) g =
-    ap (λ l. if is_made fails x (steps_of x before + 1) then (x ∷ l) else l) (makers_after-push fails (before ++ x ∷ []) fs g ∙ ap (λ l. makers_after fails (before ++ x ∷ []) fs ++ (if is_made fails g (steps_of g l + 1) then g ∷ [] else [])) (append_assoc before (x ∷ []) fs))
-    ∙ go (is_made fails x (steps_of x before + 1)) (makers_after fails (before ++ x ∷ []) fs) (if is_made fails g (steps_of g (before ++ x ∷ fs) + 1) then g ∷ [] else [])
+    ap (λ l. if is_made fails x (step_count x before + 1) then (x ∷ l) else l) (makers_after-push fails (before ++ x ∷ []) fs g ∙ ap (λ l. makers_after fails (before ++ x ∷ []) fs ++ (if is_made fails g (step_count g l + 1) then g ∷ [] else [])) (append_assoc before (x ∷ []) fs))
+    ∙ go (is_made fails x (step_count x before + 1)) (makers_after fails (before ++ x ∷ []) fs) (if is_made fails g (step_count g (before ++ x ∷ fs) + 1) then g ∷ [] else [])
   where
     go : (b : Bool) (l m : List ℕ) → (if b then (x ∷ (l ++ m)) else (l ++ m)) ≡ (if b then (x ∷ l) else l) ++ m
     go true l m = refl
     go false l m = refl
 
-pub makers-push : (fails : List Fail) (steps : List ℕ) (g : ℕ) → makers_of fails (steps ++ g ∷ []) ≡ makers_of fails steps ++ (if is_made fails g (steps_of g steps + 1) then g ∷ [] else [])
+pub makers-push : (fails : List Fail) (steps : List ℕ) (g : ℕ) → makers_of fails (steps ++ g ∷ []) ≡ makers_of fails steps ++ (if is_made fails g (step_count g steps + 1) then g ∷ [] else [])
 makers-push fails steps g = makers_after-push fails [] steps g
 
-pub made_more : (fails : List Fail) (steps : List ℕ) (g : ℕ) → length (makers_of fails (steps ++ g ∷ [])) ≡ length (makers_of fails steps) + (if is_made fails g (steps_of g steps + 1) then 1 else 0)
-made_more fails steps g = ap length (makers-push fails steps g) ∙ go (is_made fails g (steps_of g steps + 1)) (makers_of fails steps)
+pub made_more : (fails : List Fail) (steps : List ℕ) (g : ℕ) → length (makers_of fails (steps ++ g ∷ [])) ≡ length (makers_of fails steps) + (if is_made fails g (step_count g steps + 1) then 1 else 0)
+made_more fails steps g = ap length (makers-push fails steps g) ∙ go (is_made fails g (step_count g steps + 1)) (makers_of fails steps)
   where
     go : (b : Bool) (l : List ℕ) → length (l ++ (if b then g ∷ [] else [])) ≡ length l + (if b then 1 else 0)
     go true l = grind (arith, common_steps)
@@ -37,7 +37,7 @@ made_more fails steps g = ap length (makers-push fails steps g) ∙ go (is_made 
 
 made_few : (fails : List Fail) (before fs : List ℕ) → length (makers_after fails before fs) ≤ length fs
 made_few fails before [] = omega arith
-made_few fails before (f ∷ fs) = go (is_made fails f (steps_of f before + 1)) (makers_after fails (before ++ f ∷ []) fs) (made_few fails (before ++ f ∷ []) fs)
+made_few fails before (f ∷ fs) = go (is_made fails f (step_count f before + 1)) (makers_after fails (before ++ f ∷ []) fs) (made_few fails (before ++ f ∷ []) fs)
   where
     go : (b : Bool) (l : List ℕ) → length l ≤ length fs → length (if b then (f ∷ l) else l) ≤ length (f ∷ fs)
     go true l le = omega arith
@@ -61,11 +61,11 @@ ready-append n (m ∷ ms) ns taken f =
 
 -- a step of g makes its next state ready
 pub ready_push : (fails : List Fail) (steps taken : List ℕ) (g f : ℕ) → is_taken taken (length (makers_of fails steps)) ≡ false
-    → ready_of fails (steps ++ g ∷ []) taken f ≡ (if is_made fails g (steps_of g steps + 1) && g == f then ready_of fails steps taken f ++ length (makers_of fails steps) ∷ [] else ready_of fails steps taken f)
+    → ready_of fails (steps ++ g ∷ []) taken f ≡ (if is_made fails g (step_count g steps + 1) && g == f then ready_of fails steps taken f ++ length (makers_of fails steps) ∷ [] else ready_of fails steps taken f)
 ready_push fails steps taken g f untaken =
     ap (λ l. ready_from 0 l taken f) (makers-push fails steps g)
-    ∙ ready-append 0 (makers_of fails steps) (if is_made fails g (steps_of g steps + 1) then g ∷ [] else []) taken f
-    ∙ go (is_made fails g (steps_of g steps + 1)) (length (makers_of fails steps)) (ready_of fails steps taken f) untaken
+    ∙ ready-append 0 (makers_of fails steps) (if is_made fails g (step_count g steps + 1) then g ∷ [] else []) taken f
+    ∙ go (is_made fails g (step_count g steps + 1)) (length (makers_of fails steps)) (ready_of fails steps taken f) untaken
   where
     last : (b : Bool) (n : ℕ) (l : List ℕ) → l ++ (if b && true then n ∷ [] else []) ≡ (if b then l ++ n ∷ [] else l)
     last true n l = refl

@@ -6,7 +6,7 @@ use Rattle.magic_pool.specs.declared.Stepped.{Stepped}
 use Rattle.magic_pool.specs.declared.Stepped.TheVariants.{Running, Made, Failed}
 use Rattle.magic_pool.specs.declared.StepRefused.{StepRefused}
 use Rattle.magic_pool.specs.declared.StepRefused.TheVariants.{NoFactory, Stocked}
-use Rattle.magic_pool.specs.Recount.{steps_of, is_listed, makers_of, is_taken, ready_of}
+use Rattle.magic_pool.specs.Recount.{step_count, is_listed, makers_of, is_taken, ready_of}
 
 -- what a pool has: its makers and failing runs, how many states were made, and by factory its steps and ready states
 pub record Pooled : Type 0 where
@@ -19,7 +19,7 @@ pub record Pooled : Type 0 where
 -- the pool is one after these steps, in order, and these taken states
 pub record Recounts (p : Pooled) (steps taken : List ℕ) : Type 0 where
   pub made : p.made ≡ length (makers_of p.fails steps)
-  pub counts : (f : ℕ) → slice_index p.steps f ≡ steps_of f steps
+  pub counts : (f : ℕ) → slice_index p.steps f ≡ step_count f steps
   pub ready : (f : ℕ) → slice_index_or p.ready f [] ≡ ready_of p.fails steps taken f
   pub untaken : (s : ℕ) → p.made ≤ s → is_taken taken s ≡ false
 
@@ -46,4 +46,4 @@ answer_of fails f store before made ready =
 -- what a step of a factory answers after these steps and taken states
 abbrev pub step_answer : List Maker → List Fail → List ℕ → List ℕ → ℕ → Result Stepped StepRefused
 step_answer makers fails steps taken f =
-    answer_of fails f (store_of makers f) (steps_of f steps) (length (makers_of fails steps)) (length (ready_of fails steps taken f))
+    answer_of fails f (store_of makers f) (step_count f steps) (length (makers_of fails steps)) (length (ready_of fails steps taken f))

@@ -29,7 +29,7 @@ pub(crate) struct Factory {
 }
 
 impl Factory {
-    ghost use Rattle.magic_pool.specs.Factories.{Serves, IsFresh, outcome_here, ready_after};
+    ghost use Rattle.magic_pool.specs.inside.Factories.{Serves, IsFresh, outcome_here, ready_after};
 
     pub(crate) fn new(
         alloc: Global,

@@ -29,7 +29,7 @@ impl Model for Pool {
     ghost Value = { Pooled };
 
     ghost use Rattle.std.specs.Prelude.{map};
-    ghost use Rattle.magic_pool.specs.Factories.{AllServe};
+    ghost use Rattle.magic_pool.specs.inside.Factories.{AllServe};
 
     ghost view = { λ p. record {
       makers = p.makers.items;

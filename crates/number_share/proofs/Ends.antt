@@ -9,11 +9,12 @@ use mathlib.Core.Option.{some, some-injective}
 use lib.ListN.{get_elem?}
 use Rattle.atomic_table.specs.Table.{Final, Seen}
 use Rattle.number_share.specs.declared.view.View.{View}
-use Rattle.number_share.specs.Lists.{weight, times, HasEachOnce}
-use Rattle.number_share.specs.Views.{joining}
+use Rattle.number_share.specs.Lists.{one_if, times, HasEachOnce}
+use Rattle.number_share.specs.inside.Views.{joining}
 use Rattle.number_share.specs.Rule.{Kept}
-use Rattle.number_share.specs.Plays.{Sat}
-use Rattle.number_share.specs.Hands.{Owner, Rests, worth, HoldsAll, Drawn, LeavesPut}
+use Rattle.number_share.specs.inside.Plays.{Sat}
+use Rattle.number_share.specs.Hands.{Owner, LeavesPut}
+use Rattle.number_share.specs.inside.Hands.{HandRests, worth, HoldsAll, Drawn}
 use Rattle.number_share.proofs.Lists.{sum_at, sum_only, sum_le, times-append, times-cons, weight_next}
 use Rattle.number_share.proofs.Keeps.{drawn_times, past_length, part_of}
 
@@ -37,7 +38,7 @@ pub record StandsFor (all left : List Owner) (v : View) : Type 0 where
   pub drawn : (n : ℕ) → times n v.drawn + sum_by (worth n) left ≡ sum_by (worth n) all
   pub past : length v.past + sum_by past_of left ≡ sum_by past_of all
 
-module _ (h : Owner) (m : Sat) (b : Bool) (held left : List ℕ) (hr lr : ℕ) (r : Rests m b held left hr lr) (past_is : m.0.past ≡ h.past) (held_is : held ≡ h.held) (left_is : left ≡ h.left) where
+module _ (h : Owner) (m : Sat) (b : Bool) (held left : List ℕ) (hr lr : ℕ) (r : HandRests m b held left hr lr) (past_is : m.0.past ≡ h.past) (held_is : held ≡ h.held) (left_is : left ≡ h.left) where
   worth_is : (n : ℕ) → times n m.0.drawn ≡ worth n h
   worth_is n = sym (r.each n) ∙ (λ i. times n (held_is i) + times n (left_is i))
 
@@ -86,7 +87,7 @@ closes numbers owners hands ws xs id next v all holds end taken =
     let few = sum_le past_length part_of s.views (λ j u e. (r.each j u e).few) in
     let count : r.count ≡ min next numbers = count_is ∙ ap (λ (n : ℕ). min n numbers) word in (
       record {
-        each = λ n. sym (holds.drawn n) ∙ (sym (sum_only (drawn_times n) part_of s.views id v at whole (λ j u e none. ap (times n) ((r.each j u e).idle none))) ∙ (r.once n ∙ ap (λ (k : ℕ). weight (ltb n k)) count));
+        each = λ n. sym (holds.drawn n) ∙ (sym (sum_only (drawn_times n) part_of s.views id v at whole (λ j u e none. ap (times n) ((r.each j u e).idle none))) ∙ (r.once n ∙ ap (λ (k : ℕ). one_if (ltb n k)) count));
         past = (let a = sum_only past_length part_of s.views id v at whole (λ j u e none. let f = (r.each j u e).few in omega arith) in let b = holds.past in omega arith);
       },
       omega arith,
@@ -119,13 +120,13 @@ gathered put now later first j is step inside =
     step ∙ (ap (λ (l : List ℕ). l ++ j ∷ []) is ∙ (append_assoc put (range_with_len first (j - first)) (j ∷ []) ∙ ap (λ (l : List ℕ). put ++ l) (sym more ∙ ap (range_with_len first) long)))
 
 -- the numbers below a and the k numbers from a on are those below a + k
-times_range : (n a k : ℕ) → times n (range_with_len a k) + weight (ltb n a) ≡ weight (ltb n (a + k))
-times_range n a zero = let t : weight (ltb n a) ≡ weight (ltb n (a + 0)) = ap (λ (j : ℕ). weight (ltb n j)) (omega arith) in omega arith
+times_range : (n a k : ℕ) → times n (range_with_len a k) + one_if (ltb n a) ≡ one_if (ltb n (a + k))
+times_range n a zero = let t : one_if (ltb n a) ≡ one_if (ltb n (a + 0)) = ap (λ (j : ℕ). one_if (ltb n j)) (omega arith) in omega arith
 times_range n a (suc k) =
     let t = times_range n (a + 1) k in
     let u = times-cons n a (range_with_len (a + 1) k) in
     let w = weight_next n a in
-    let same : weight (ltb n (a + 1 + k)) ≡ weight (ltb n (a + suc k)) = ap (λ (j : ℕ). weight (ltb n j)) (omega arith) in omega arith
+    let same : one_if (ltb n (a + 1 + k)) ≡ one_if (ltb n (a + suc k)) = ap (λ (j : ℕ). one_if (ltb n j)) (omega arith) in omega arith
 
 -- what was put, what no hand drew and what is held
 pub each_once : (hands : List Owner) (numbers next first : ℕ) → Drawn hands numbers next → first ≡ min next numbers
@@ -138,8 +139,8 @@ each_once hands numbers next first drawn is n =
     let e = sum_plus (λ (h : Owner). times n h.held) (λ (h : Owner). times n h.left) hands in
     let f = drawn.each n in
     let g = times_range n first (numbers - first) in
-    let same : weight (ltb n first) ≡ weight (ltb n (min next numbers)) = ap (λ (j : ℕ). weight (ltb n j)) is in
-    let whole : weight (ltb n (first + (numbers - first))) ≡ weight (ltb n numbers) = ap (λ (j : ℕ). weight (ltb n j)) (omega arith) in omega arith
+    let same : one_if (ltb n first) ≡ one_if (ltb n (min next numbers)) = ap (λ (j : ℕ). one_if (ltb n j)) is in
+    let whole : one_if (ltb n (first + (numbers - first))) ≡ one_if (ltb n numbers) = ap (λ (j : ℕ). one_if (ltb n j)) (omega arith) in omega arith
 
 -- where a hand is spent, no number below `numbers` is left undrawn
 pub leaves : (hands : List Owner) (numbers next first : ℕ) (answer : List ℕ) → Drawn hands numbers next → first ≡ min next numbers → answer ≡ flat_map (λ (h : Owner). h.left) hands ++ range_with_len first (numbers - first)

@@ -8,10 +8,10 @@ use lib.ListN.{get_elem?}
 use Rattle.atomic_table.specs.Table.{State, step, keeps, opening, Allows, Splits, Joins}
 use Rattle.atomic_table.proofs.Lists.{set_else}
 use Rattle.number_share.specs.declared.view.View.{View}
-use Rattle.number_share.specs.Lists.{weight, times}
-use Rattle.number_share.specs.Views.{opener, dealing, dealt, drawing, passing, joining, ended}
+use Rattle.number_share.specs.Lists.{one_if, times}
+use Rattle.number_share.specs.inside.Views.{opener, dealing, dealt, drawing, passing, joining, ended}
 use Rattle.number_share.specs.Rule.{Fits, Kept}
-use Rattle.number_share.specs.Plays.{Sat, drew}
+use Rattle.number_share.specs.inside.Plays.{Sat, drew}
 use Rattle.number_share.proofs.Lists.{set_at, each_lone, each_set, each_push, sum_at, sum_grown, sum_cut, sum_joined, sum_le, weight_le, weight_ge, weight_next, times-push, times-append}
 
 abbrev pub drawn_times : ℕ → View → ℕ
@@ -87,11 +87,11 @@ module _ (numbers owners : ℕ) where
       let w : View = drawing v x in
       let longer : length w.drawn ≡ length v.drawn + 1 = length-append v.drawn (x ∷ []) in
       let at_count : x ≡ r.count = omega arith in
-      let once : (n : ℕ) → sum_by (drawn_times n) (set s.views id w) ≡ weight (ltb n (r.count + 1)) = λ n. (
-      let t = sum_grown (drawn_times n) s.views id v w (weight (eqb x n)) at (times-push n v.drawn x) in
+      let once : (n : ℕ) → sum_by (drawn_times n) (set s.views id w) ≡ one_if (ltb n (r.count + 1)) = λ n. (
+      let t = sum_grown (drawn_times n) s.views id v w (one_if (eqb x n)) at (times-push n v.drawn x) in
       let h = r.once n in
       let u = weight_next n r.count in
-      let q : weight (eqb x n) ≡ weight (eqb r.count n) = ap (λ (m : ℕ). weight (eqb m n)) at_count in
+      let q : one_if (eqb x n) ≡ one_if (eqb r.count n) = ap (λ (m : ℕ). one_if (eqb m n)) at_count in
       omega arith
       ) in
       let drawn : sum_by drawn_length (set s.views id w) ≡ r.count + 1 = (let t = sum_grown drawn_length s.views id v w 1 at longer in let h = r.drawn in omega arith) in

@@ -6,7 +6,7 @@ use mathlib.Core.Logic.{dite}
 use native.Mathlib.Decide.{dec_le, ℕ_discrete}
 use lib.ListN.{get_elem?}
 use Rattle.atomic_table.proofs.Lists.{at_set, set_here}
-use Rattle.number_share.specs.Lists.{weight, times}
+use Rattle.number_share.specs.Lists.{one_if, times}
 
 module _ {A : Type 0} where
   pub at_end : (l : List A) (a b : A) (j : ℕ) → get_elem? (l ++ a ∷ []) j ≡ some b → (get_elem? l j ≡ some b) ⊎ ((j ≡ length l) × (a ≡ b))
@@ -97,38 +97,38 @@ module _ {A : Type 0} (f g : A → ℕ) where
       let z = none 0 x refl (omega arith) in
       let t = sum_only xs i v at (omega arith) (λ j u e. none (suc j) u e) in omega arith
 
-pub weight_le : (b : Bool) → weight b ≤ 1
+pub weight_le : (b : Bool) → one_if b ≤ 1
 weight_le true = omega arith
 weight_le false = omega arith
 
-pub weight_lt : (a b : ℕ) → a < b → weight (ltb a b) ≡ 1
-weight_lt a b h = ap weight (lt-ltb a b h)
+pub weight_lt : (a b : ℕ) → a < b → one_if (ltb a b) ≡ 1
+weight_lt a b h = ap one_if (lt-ltb a b h)
 
-pub weight_ge : (a b : ℕ) → b ≤ a → weight (ltb a b) ≡ 0
-weight_ge a b h = ap weight (le-ltb a b h)
+pub weight_ge : (a b : ℕ) → b ≤ a → one_if (ltb a b) ≡ 0
+weight_ge a b h = ap one_if (le-ltb a b h)
 
-pub weight_eq : (a b : ℕ) → a ≡ b → weight (eqb a b) ≡ 1
-weight_eq a b h = ap weight (eq-eqb a b h)
+pub weight_eq : (a b : ℕ) → a ≡ b → one_if (eqb a b) ≡ 1
+weight_eq a b h = ap one_if (eq-eqb a b h)
 
-weight_ne : (a b : ℕ) → a ≢ b → weight (eqb a b) ≡ 0
-weight_ne a b h = ap weight (ne_eqb a b h)
+weight_ne : (a b : ℕ) → a ≢ b → one_if (eqb a b) ≡ 0
+weight_ne a b h = ap one_if (ne_eqb a b h)
 
 -- the numbers below k and k are those below k + 1
-pub weight_next : (n k : ℕ) → weight (ltb n k) + weight (eqb k n) ≡ weight (ltb n (k + 1))
+pub weight_next : (n k : ℕ) → one_if (ltb n k) + one_if (eqb k n) ≡ one_if (ltb n (k + 1))
 weight_next n k = dite (ℕ_discrete k n)
     (λ is. let a = weight_eq k n is in let b = weight_ge n k (omega arith) in let c = weight_lt n (k + 1) (omega arith) in omega arith)
     (λ not_it. let a = weight_ne k n not_it in dite (dec_le k n)
     (λ over. let b = weight_ge n k over in let c = weight_ge n (k + 1) (omega arith) in omega arith)
     (λ under. let b = weight_lt n k (omega arith) in let c = weight_lt n (k + 1) (omega arith) in omega arith))
 
-pub times-push : (n : ℕ) (xs : List ℕ) (m : ℕ) → times n (xs ++ m ∷ []) ≡ times n xs + weight (eqb m n)
-times-push n xs m = sum_by_push (λ (x : ℕ). weight (eqb x n)) xs m
+pub times-push : (n : ℕ) (xs : List ℕ) (m : ℕ) → times n (xs ++ m ∷ []) ≡ times n xs + one_if (eqb m n)
+times-push n xs m = sum_by_push (λ (x : ℕ). one_if (eqb x n)) xs m
 
-pub times-cons : (n m : ℕ) (xs : List ℕ) → times n (m ∷ xs) ≡ weight (eqb m n) + times n xs
-times-cons n m xs = sum_by-cons (λ (x : ℕ). weight (eqb x n)) m xs
+pub times-cons : (n m : ℕ) (xs : List ℕ) → times n (m ∷ xs) ≡ one_if (eqb m n) + times n xs
+times-cons n m xs = sum_by-cons (λ (x : ℕ). one_if (eqb x n)) m xs
 
 pub times-append : (n : ℕ) (xs ys : List ℕ) → times n (xs ++ ys) ≡ times n xs + times n ys
-times-append n xs ys = sum_by-append (λ (x : ℕ). weight (eqb x n)) xs ys
+times-append n xs ys = sum_by-append (λ (x : ℕ). one_if (eqb x n)) xs ys
 
 pub times_at : (xs : List ℕ) (n k : ℕ) → k < length xs → get_or xs k n ≡ n → 1 ≤ times n xs
 times_at [] n k inside is = absurd (omega arith)

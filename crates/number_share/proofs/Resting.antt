@@ -6,18 +6,19 @@ use Rattle.std.proofs.lemmas.Grind.{common_steps}
 use mathlib.Core.Logic.{dite}
 use native.Mathlib.Decide.{ℕ_discrete}
 use Rattle.number_share.specs.declared.view.View.{View}
-use Rattle.number_share.specs.Lists.{weight, times, without}
-use Rattle.number_share.specs.Views.{drawing, passing, IsSound}
-use Rattle.number_share.specs.Plays.{Sat}
-use Rattle.number_share.specs.Hands.{Owner, IsSpent, Rests, Takes, ends, retakes, spending, retaking}
+use Rattle.number_share.specs.Lists.{one_if, times, without}
+use Rattle.number_share.specs.inside.Views.{drawing, passing, IsSound}
+use Rattle.number_share.specs.inside.Plays.{Sat}
+use Rattle.number_share.specs.Hands.{Owner, IsSpent, Takes, ends, retakes, spending, retaking}
+use Rattle.number_share.specs.inside.Hands.{HandRests}
 use Rattle.number_share.proofs.Lists.{times-push, times-cons, times_at, weight_eq}
 
 -- its step read r, which isn't shared
-pub rests_spent : (m m' : Sat) (r : ℕ) (b : Bool) (held left : List ℕ) (hr lr : ℕ) → Rests m b held left hr lr → m.0.past ≡ [] → m'.1 ≡ m.1 → m.0.numbers ≤ r → m'.0 ≡ passing m.0 r → Rests m' true held left hr lr
+pub rests_spent : (m m' : Sat) (r : ℕ) (b : Bool) (held left : List ℕ) (hr lr : ℕ) → HandRests m b held left hr lr → m.0.past ≡ [] → m'.1 ≡ m.1 → m.0.numbers ≤ r → m'.0 ≡ passing m.0 r → HandRests m' true held left hr lr
 rests_spent m m' r b held left hr lr k unspent slot over is =
     let v : View = m.0 in
     let after : Sat = (passing v r, m.1) in
-    let rests : Rests after true held left hr lr = record {
+    let rests : HandRests after true held left hr lr = record {
       no_slot = k.no_slot;
       one = k.one;
       sound = k.sound;
@@ -29,11 +30,11 @@ rests_spent m m' r b held left hr lr k unspent slot over is =
       below_held = k.below_held;
       held_fits = k.held_fits;
       left_fits = k.left_fits;
-    } in subst (λ (z : Sat). Rests z true held left hr lr) (λ i. (sym is i, sym slot i)) rests
+    } in subst (λ (z : Sat). HandRests z true held left hr lr) (λ i. (sym is i, sym slot i)) rests
 
 -- its step drew n
-pub rests_drawn : (m m' : Sat) (n : ℕ) (b : Bool) (held left : List ℕ) (hr lr : ℕ) → Rests m b held left hr lr → m'.1 ≡ m.1 → n < m.0.numbers → m'.0 ≡ drawing m.0 n → IsSound m'.0
-    → Rests m' b (held ++ n ∷ []) left hr lr × (length held < hr)
+pub rests_drawn : (m m' : Sat) (n : ℕ) (b : Bool) (held left : List ℕ) (hr lr : ℕ) → HandRests m b held left hr lr → m'.1 ≡ m.1 → n < m.0.numbers → m'.0 ≡ drawing m.0 n → IsSound m'.0
+    → HandRests m' b (held ++ n ∷ []) left hr lr × (length held < hr)
 rests_drawn m m' n b held left hr lr k slot under is sound' =
     let v : View = m.0 in
     let after : Sat = (drawing v n, m.1) in
@@ -43,7 +44,7 @@ rests_drawn m m' n b held left hr lr k slot under is sound' =
     let fits = sound.1 in
     let room = k.held_fits in
     let was = k.long in
-    let rests : Rests after b (held ++ n ∷ []) left hr lr = record {
+    let rests : HandRests after b (held ++ n ∷ []) left hr lr = record {
       no_slot = k.no_slot;
       one = k.one;
       sound = sound;
@@ -55,10 +56,10 @@ rests_drawn m m' n b held left hr lr k slot under is sound' =
       below_held = All-push (λ j. j < v.numbers) held n k.below_held under;
       held_fits = k.held_fits;
       left_fits = k.left_fits;
-    } in (subst (λ (z : Sat). Rests z b (held ++ n ∷ []) left hr lr) (λ i. (sym is i, sym slot i)) rests, omega arith)
+    } in (subst (λ (z : Sat). HandRests z b (held ++ n ∷ []) left hr lr) (λ i. (sym is i, sym slot i)) rests, omega arith)
 
 -- the last number of the list stands there once
-pub apart : (m : Sat) (n : ℕ) (b : Bool) (held left : List ℕ) (hr lr : ℕ) → Rests m b (held ++ n ∷ []) left hr lr → ¬ (Contains held n)
+pub apart : (m : Sat) (n : ℕ) (b : Bool) (held left : List ℕ) (hr lr : ℕ) → HandRests m b (held ++ n ∷ []) left hr lr → ¬ (Contains held n)
 apart m n b held left hr lr k there =
     let a = times-push n held n in
     let d = weight_eq n n refl in
@@ -67,7 +68,7 @@ apart m n b held left hr lr k there =
     let t = times_at held n there.0 there.1 there.2 in absurd (omega arith)
 
 -- the oldest number that was put was taken again
-pub rests_retaken : (m : Sat) (n : ℕ) (b : Bool) (held left rest : List ℕ) (hr lr : ℕ) → Rests m b held left hr lr → left ≡ n ∷ rest → Rests m b (held ++ n ∷ []) rest hr lr
+pub rests_retaken : (m : Sat) (n : ℕ) (b : Bool) (held left rest : List ℕ) (hr lr : ℕ) → HandRests m b held left hr lr → left ≡ n ∷ rest → HandRests m b (held ++ n ∷ []) rest hr lr
 rests_retaken m n b held left rest hr lr k is =
     let v : View = m.0 in
     let long = length-append held (n ∷ []) in
@@ -109,8 +110,8 @@ remove_is_without n (x ∷ xs) (suc k) inside is once = dite (ℕ_discrete x n)
     let t = remove_is_without n xs k (omega arith) is (omega arith) in grind (arith, common_steps))
 
 -- n was put back from place k
-pub rests_put : (m : Sat) (n k : ℕ) (b : Bool) (held left : List ℕ) (hr lr : ℕ) → Rests m b held left hr lr → k < length held → get_or held k n ≡ n
-    → Rests m b (remove held k) (left ++ n ∷ []) hr lr × (length left < lr) × (remove held k ≡ without n held)
+pub rests_put : (m : Sat) (n k : ℕ) (b : Bool) (held left : List ℕ) (hr lr : ℕ) → HandRests m b held left hr lr → k < length held → get_or held k n ≡ n
+    → HandRests m b (remove held k) (left ++ n ∷ []) hr lr × (length left < lr) × (remove held k ≡ without n held)
 rests_put m n k b held left hr lr r inside is =
     let v : View = m.0 in
     let moved = IsPermutation-remove held k n inside (sym is) in
@@ -127,7 +128,7 @@ rests_put m n k b held left hr lr r inside is =
         unspent = r.unspent;
         spent_by = r.spent_by;
         each = λ j. (
-            let a = sum_by-IsPermutation (λ (x : ℕ). weight (eqb x j)) held (n ∷ remove held k) moved in
+            let a = sum_by-IsPermutation (λ (x : ℕ). one_if (eqb x j)) held (n ∷ remove held k) moved in
             let c = times-cons j n (remove held k) in
             let d = times-push j left n in
             let e = r.each j in omega arith

@@ -1,14 +1,11 @@
 -- Shares and hands as clauses see them.
-use Rattle.std.specs.Prelude.{◌≡◌, ℕ, ◌+◌, ◌-◌, ◌<◌, ◌≤◌, min, Bool, true, false, Option, Some, List, [], ◌∷◌, ◌++◌, take, drop, length, slice_get, nat_lt}
-use Rattle.std.specs.List.{All, Any, sum_by, flat_map, range_with_len}
+use Rattle.std.specs.Prelude.{◌≡◌, ℕ, ◌+◌, ◌-◌, ◌<◌, ◌≤◌, Option, Some, List, [], ◌∷◌, ◌++◌, take, drop, slice_get}
+use Rattle.std.specs.List.{Any, flat_map, range_with_len}
 use Rattle.atomic_table.specs.Seated.{TableId}
-use Rattle.number_share.specs.declared.view.View.{View}
-use Rattle.number_share.specs.Lists.{weight, times, without}
-use Rattle.number_share.specs.Views.{IsSound}
-use Rattle.number_share.specs.Plays.{Sat}
+use Rattle.number_share.specs.Lists.{without}
 
 -- which share it is, how many numbers it shares, and among how many hands
-pub record Named : Type 0 where
+pub record NamedShare : Type 0 where
   pub id : TableId
   pub numbers : ℕ
   pub owners : ℕ
@@ -23,14 +20,14 @@ pub record Owner : Type 0 where
   pub left : List ℕ
 
 -- the hand was made with the share
-abbrev pub IsOf : Named → Owner → Type 0
-IsOf s h = (h.share ≡ s.id) × (h.numbers ≡ s.numbers)
+abbrev pub IsHandOf : NamedShare → Owner → Type 0
+IsHandOf s h = (h.share ≡ s.id) × (h.numbers ≡ s.numbers)
 
 -- a hand that took nothing
 abbrev pub unused : TableId → ℕ → Owner
 unused id numbers = record { share = id; numbers = numbers; past = []; held = []; left = [] }
 
-abbrev pub fresh : Named → Owner
+abbrev pub fresh : NamedShare → Owner
 fresh s = unused s.id s.numbers
 
 -- one of its steps read a number that isn't shared
@@ -61,35 +58,6 @@ pub data Takes (h : Owner) (answer : Option ℕ) (after : Owner) : Type 0 where
   ends : (r : ℕ) → h.past ≡ [] → h.numbers ≤ r → answer ≡ slice_get h.left 0 → after ≡ retaking (spending h r) → Takes h answer after
   -- a spent hand makes no step, and takes again what was put
   retakes : IsSpent h → answer ≡ slice_get h.left 0 → after ≡ retaking h → Takes h answer after
-
--- a hand between two calls, with the room for all numbers
-pub record Rests (m : Sat) (spent : Bool) (held left : List ℕ) (held_room left_room : ℕ) : Type 0 where
-  pub no_slot : m.1 ≡ []
-  pub one : m.0.part ≡ 1
-  pub sound : IsSound m.0
-  pub unspent : spent ≡ false → m.0.past ≡ []
-  pub spent_by : spent ≡ true → (r : ℕ) × (m.0.numbers ≤ r) × (m.0.past ≡ r ∷ [])
-  pub each : (n : ℕ) → times n held + times n left ≡ times n m.0.drawn
-  pub long : length held + length left ≡ length m.0.drawn
-  pub below : All (λ n. n < m.0.numbers) left
-  pub below_held : All (λ n. n < m.0.numbers) held
-  pub held_fits : m.0.numbers ≤ held_room
-  pub left_fits : m.0.numbers ≤ left_room
-
--- how often n stands in a hand
-abbrev pub worth : ℕ → Owner → ℕ
-worth n h = times n h.held + times n h.left
-
--- the view of all hands together
-pub record HoldsAll (hands : List Owner) (v : View) : Type 0 where
-  pub part : v.part ≡ length hands
-  pub drawn : (n : ℕ) → times n v.drawn ≡ sum_by (worth n) hands
-  pub past : length v.past ≡ sum_by (λ (h : Owner). length h.past) hands
-
--- the numbers below `numbers` that are below the word stand in the hands, each once
-pub record Drawn (hands : List Owner) (numbers next : ℕ) : Type 0 where
-  pub each : (n : ℕ) → sum_by (worth n) hands ≡ weight (nat_lt n (min next numbers))
-  pub past : sum_by (λ (h : Owner). length h.past) hands ≡ next - numbers
 
 -- the numbers that were put, and then those that no hand drew: none, where a hand is spent
 pub record LeavesPut (numbers : ℕ) (hands : List Owner) (answer : List ℕ) : Type 0 where

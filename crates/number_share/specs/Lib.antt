@@ -1,6 +1,5 @@
 pub mod Lists
-pub mod Views
 pub mod Rule
-pub mod Plays
 pub mod Hands
 pub mod Moments
+pub mod inside

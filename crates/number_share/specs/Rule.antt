@@ -5,7 +5,7 @@ use mathlib.Core.Option.{some}
 use lib.ListN.{get_elem?}
 use Rattle.atomic_table.specs.Table.{State}
 use Rattle.number_share.specs.declared.view.View.{View}
-use Rattle.number_share.specs.Lists.{weight, times}
+use Rattle.number_share.specs.Lists.{one_if, times}
 
 -- a seat that stands for no hand drew nothing, and each hand reads one number past the shared ones at most
 pub record Fits (numbers : ℕ) (v : View) : Type 0 where
@@ -20,7 +20,7 @@ pub record Kept (numbers owners : ℕ) (s : State (Unit {0}) View) : Type 0 wher
   pub words : s.words ≡ next ∷ []
   pub count_is : count ≡ min next numbers
   -- the numbers that were drawn are those below `count`, each once
-  pub once : (n : ℕ) → sum_by (λ (v : View). times n v.drawn) s.views ≡ weight (nat_lt n count)
+  pub once : (n : ℕ) → sum_by (λ (v : View). times n v.drawn) s.views ≡ one_if (nat_lt n count)
   pub drawn : sum_by (λ (v : View). length v.drawn) s.views ≡ count
   -- each further step was one past the shared numbers
   pub past : sum_by (λ (v : View). length v.past) s.views ≡ next - numbers

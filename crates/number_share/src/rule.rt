@@ -1,7 +1,7 @@
 // The rule of the word, and the names of its steps.
-ghost use Rattle.number_share.specs.Views.{opener, dealing, dealt, joining, ended};
+ghost use Rattle.number_share.specs.inside.Views.{opener, dealing, dealt, joining, ended};
 ghost use Rattle.number_share.specs.Rule.{Kept};
-ghost use Rattle.number_share.specs.Plays.{drew};
+ghost use Rattle.number_share.specs.inside.Plays.{drew};
 
 use crate::view::View;
 use atomic_table::{Join, Play, Split, TableRule};

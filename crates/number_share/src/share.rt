@@ -2,8 +2,9 @@
 ghost use Rattle.std.specs.Prelude.{◌≡◌, ℕ, ◌+◌, ◌-◌, ◌<◌, ◌≤◌, ◌↔◌, true, false, List, [], ◌∷◌, ◌++◌, length, min, replicate, slice_get, IsNone, IfOk, IfSome, IfNone};
 ghost use Rattle.std.specs.List.{All, Any, Contains, flat_map, range_with_len};
 ghost use Rattle.number_share.specs.Lists.{HasEachOnce};
-ghost use Rattle.number_share.specs.Views.{opener};
-ghost use Rattle.number_share.specs.Hands.{Named, Owner, IsOf, IsSpent, unused, fresh, drawing, spending, retaking, putting, Takes, HoldsAll, Drawn, LeavesPut};
+ghost use Rattle.number_share.specs.inside.Views.{opener};
+ghost use Rattle.number_share.specs.Hands.{NamedShare, Owner, IsHandOf, IsSpent, unused, fresh, drawing, spending, retaking, putting, Takes, LeavesPut};
+ghost use Rattle.number_share.specs.inside.Hands.{HoldsAll, Drawn};
 
 use crate::rule::{Counts, Deal, EachOnce, Gather};
 use crate::steps::{Core, HandSeat, NEXT, draw};
@@ -24,9 +25,9 @@ pub struct Share {
 
 impl Model for Share {
     ghost use Rattle.std.specs.Prelude.{◌≡◌, ◌<◌};
-    ghost use Rattle.number_share.specs.Hands.{Named};
+    ghost use Rattle.number_share.specs.Hands.{NamedShare};
 
-    ghost Value = { Named };
+    ghost Value = { NamedShare };
 
     ghost view = { λ s.
         record {
@@ -55,7 +56,8 @@ pub struct Hand {
 impl Model for Hand {
     ghost use Rattle.std.specs.Prelude.{vec_capacity};
     ghost use Rattle.std.specs.VecDeque.{deque_capacity};
-    ghost use Rattle.number_share.specs.Hands.{Owner, Rests};
+    ghost use Rattle.number_share.specs.Hands.{Owner};
+    ghost use Rattle.number_share.specs.inside.Hands.{HandRests};
 
     ghost Value = { Owner };
 
@@ -68,7 +70,8 @@ impl Model for Hand {
           left = h.left.items;
         } };
 
-    ghost invariant = { λ h. Rests h.seat.me h.spent h.held.items h.left.items (vec_capacity h.held)
+    ghost invariant = { λ h. HandRests h.seat.me h.spent h.held.items h.left.items (vec_capacity
+        h.held)
         (deque_capacity h.left) };
 }
 
@@ -84,8 +87,8 @@ impl Hand {
     /// The next number that no hand has drawn, or, of a spent hand, the number that was put longest
     /// ago. A hand is spent from the step on that read a number past the shared ones.
     pub fn take(&mut self, share: &Share) -> Option<u32>
-        requires { IsOf share.now self.old }
-        ensures share { IsOf share.now self.new }
+        requires { IsHandOf share.now self.old }
+        ensures share { IsHandOf share.now self.new }
         ensures taken { IfSome result (λ n. (n < share.now.numbers)
             × (self.new.held ≡ self.old.held ++ n ∷ [])) }
         ensures once { IfSome result (λ n. ¬ (Contains self.old.held n)) }
@@ -103,7 +106,7 @@ impl Hand {
 
     // One step: it draws a number, or the hand is spent.
     fn draw(&mut self, share: &Share) -> Option<u32>
-        requires share { IsOf share.now self.old }
+        requires share { IsHandOf share.now self.old }
         requires unspent { self.old.past ≡ [] }
         ensures drawn { IfSome result (λ n. (n < self.old.numbers)
             × (self.new ≡ drawing self.old n)) }
@@ -231,7 +234,7 @@ impl Share {
     /// drawn.
     pub fn gather(self, alloc: Global, hands: Vec<Hand>) -> Result<Vec<u32>, Memory>
         requires all { length hands.items ≡ self.owners }
-        requires hands { All (IsOf self) hands.items }
+        requires hands { All (IsHandOf self) hands.items }
         // What is left and what the hands hold are together the shared numbers, each once.
         ensures once { IfOk result (λ v. HasEachOnce self.numbers
             (v.items ++ flat_map (λ (h : Owner). h.held) hands.items)) }
@@ -249,7 +252,7 @@ impl Share {
     // The next number at the end.
     fn close(self, hands: Vec<Hand>) -> u32
         requires all { length hands.items ≡ self.owners }
-        requires hands { All (IsOf self) hands.items }
+        requires hands { All (IsHandOf self) hands.items }
         ensures { Drawn hands.items self.numbers result }
     {
         let Share { table, numbers: _ } = self;

@@ -1,6 +1,6 @@
 // The step on the word.
 ghost use Rattle.std.specs.Prelude.{◌≡◌, ◌<◌, ◌≤◌, []};
-ghost use Rattle.number_share.specs.Views.{drawing, passing, IsSound};
+ghost use Rattle.number_share.specs.inside.Views.{drawing, passing, IsSound};
 
 use crate::rule::{Counts, Draw, EachOnce};
 use crate::view::View;

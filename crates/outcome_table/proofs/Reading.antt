@@ -7,7 +7,7 @@ use Rattle.outcome_table.specs.declared.draft.Draft.{Draft}
 use Rattle.outcome_table.specs.declared.fault.OutcomeFault.{OutcomeFault}
 use Rattle.outcome_table.specs.declared.fault.OutcomeFault.TheVariants as fault
 use Rattle.outcome_table.specs.OutcomeText.{AllKept, AreRead, Asked, BreaksText, IsHeaded, IsShort, Kept, Line, Refuses, Spells, StandsFor}
-use Rattle.outcome_table.specs.Drafts.{BreaksBody, Holds, IsBodyOf, IsFirstEmpty, Takes}
+use Rattle.outcome_table.specs.inside.Drafts.{BreaksBody, Holds, IsBodyOf, IsFirstEmpty, Takes}
 use Rattle.outcome_table.proofs.Slots.{empty_lacks, filled_given, filled_kinds, lacks_empty}
 
 pub record SoFar (a : Asked) (all rest : List (List ℕ)) (number : ℕ) (d : Draft) : Type 0 where

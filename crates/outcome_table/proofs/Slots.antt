@@ -11,7 +11,7 @@ use Rattle.source_model.specs.declared.Kind.TheVariants as kind
 use Rattle.source_model.specs.declared.Given.{Given}
 use Rattle.source_model.specs.declared.Given.TheVariants as given
 use Rattle.outcome_table.specs.OutcomeText.{AreGiven, Asked, HasLine, Lacks, Line, outcome}
-use Rattle.outcome_table.specs.Drafts.{IsSlot, slot_at_first}
+use Rattle.outcome_table.specs.inside.Drafts.{IsSlot, slot_at_first}
 use Rattle.outcome_table.proofs.Tables.{settled_alike}
 
 abbrev pub Slots : List Kind → List Line → List (Option Given) → Type 0

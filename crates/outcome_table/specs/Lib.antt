@@ -1,4 +1,4 @@
-pub mod Drafts
 pub mod OutcomeText
 pub mod Laws
 pub mod Rows
+pub mod inside

@@ -6,7 +6,7 @@ ghost use Rattle.source_model.specs.declared.Given.TheVariants as given_of;
 ghost use Rattle.source_model.specs.declared.Kind.{Kind as Kind_of};
 ghost use Rattle.outcome_table.specs.declared.fault.OutcomeFault.TheVariants as fault;
 ghost use Rattle.outcome_table.specs.OutcomeText.{Line as Line_of, outcome, failing, Kept, Breaks, BreaksText};
-ghost use Rattle.outcome_table.specs.Drafts.{Holds, Takes, slot_at_first, IsFirstEmpty};
+ghost use Rattle.outcome_table.specs.inside.Drafts.{Holds, Takes, slot_at_first, IsFirstEmpty};
 
 use crate::OutcomeFault;
 use crate::line::{Line, line_of};

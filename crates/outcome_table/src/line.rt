@@ -2,7 +2,7 @@
 
 ghost use Rattle.std.specs.Prelude.{◌≡◌, ◌≢◌, ℕ, ◌<◌, ◌^◌, Bool, List, [], ◌∷◌, codes, IfSome, IfNone, decimal as decimal_text};
 ghost use Rattle.patch_base.specs.Texts.{digit};
-ghost use Rattle.outcome_table.specs.Drafts.{said};
+ghost use Rattle.outcome_table.specs.inside.Drafts.{said};
 ghost use Rattle.outcome_table.specs.OutcomeText.{Line as Line_of, Spells, SpellsWords};
 
 use magic_pool::Fail;

@@ -7,7 +7,7 @@ ghost use Rattle.source_model.specs.declared.Given.{Given as Given_of};
 ghost use Rattle.outcome_table.specs.declared.fault.OutcomeFault.{OutcomeFault as OutcomeFault_of};
 ghost use Rattle.outcome_table.specs.declared.fault.OutcomeFault.TheVariants as fault;
 ghost use Rattle.outcome_table.specs.OutcomeText.{StandsFor, Refuses};
-ghost use Rattle.outcome_table.specs.Drafts.{IsBodyOf, BreaksBody};
+ghost use Rattle.outcome_table.specs.inside.Drafts.{IsBodyOf, BreaksBody};
 
 use crate::draft::{Draft, filled};
 use crate::{FailList, GivenList, OutcomeFault, Outcomes};

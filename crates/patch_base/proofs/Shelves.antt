@@ -9,7 +9,7 @@ use Rattle.std.proofs.Math.ListN.{set}
 use Rattle.patch_base.specs.MemoryShelf as seen
 use Rattle.patch_base.specs.MemoryShelf.{text_of, count_of, faults_of, raised, one_more}
 use Rattle.patch_base.specs.Outside.{Rose}
-use Rattle.patch_base.specs.Books.{book_of}
+use Rattle.patch_base.specs.inside.Books.{book_of}
 use Rattle.patch_base.specs.declared.memory_shelf.Book.{Book}
 
 abbrev pub has_name : List ℕ → Book → Bool

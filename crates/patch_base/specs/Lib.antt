@@ -1,4 +1,3 @@
-pub mod Books
 pub mod Lines
 pub mod MemoryShelf
 pub mod MemorySink
@@ -6,3 +5,4 @@ pub mod Names
 pub mod Outside
 pub mod Passes
 pub mod Texts
+pub mod inside

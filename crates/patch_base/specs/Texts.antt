@@ -1,5 +1,5 @@
 -- Texts of lines, and lines of words.
-use Rattle.std.specs.Prelude.{◌≡◌, ℕ, Bool, true, not, ◌+◌, ◌==◌, ◌&&◌, if◌then◌else◌, List, [], ◌∷◌, drop, codes, Option, Some, None}
+use Rattle.std.specs.Prelude.{◌≡◌, ℕ, Bool, true, not, ◌+◌, ◌==◌, ◌&&◌, if◌then◌else◌, List, [], ◌∷◌, drop, codes}
 use Rattle.std.specs.List.{position_or_len, join_with_byte, slice_split, onto_first}
 
 -- the lines of a text, without their line feeds; a last line needs none
@@ -18,10 +18,6 @@ spaced ws = join_with_byte 32 ws
 -- the pieces of a line between its spaces, one more than it has spaces
 abbrev pub words : List ℕ → List (List ℕ)
 words line = slice_split (λ b. b == 32) line
-
-abbrev pub words_left : Option (List ℕ) → List (List ℕ)
-words_left None = []
-words_left (Some line) = words line
 
 -- no byte is a space
 abbrev pub has_no_space : List ℕ → Bool

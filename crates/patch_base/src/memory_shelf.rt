@@ -3,7 +3,7 @@ ghost use Rattle.std.specs.Prelude.{◌≡◌, ℕ, List, ◌↔◌, ◌≤◌, 
 ghost use Rattle.std.specs.Prelude.{map};
 ghost use Rattle.std.specs.Option.{option_copied};
 ghost use Rattle.std.specs.Str.{bytes_eq};
-ghost use Rattle.patch_base.specs.Books.{book_of};
+ghost use Rattle.patch_base.specs.inside.Books.{book_of};
 ghost use Rattle.std.specs.String.{string_bytes};
 ghost use Rattle.patch_base.specs.Outside.{Rose, Gives};
 ghost use Rattle.patch_base.specs.MemoryShelf.{text_of, faults_of, fails_for, after_call, given_of, raised};
@@ -40,7 +40,7 @@ impl Model for MemoryShelf {
     ghost Value = { Shelved };
 
     ghost use Rattle.std.specs.Prelude.{◌≤◌, map};
-    ghost use Rattle.patch_base.specs.Books.{book_of};
+    ghost use Rattle.patch_base.specs.inside.Books.{book_of};
 
     ghost view = { λ s. record {
       books = map book_of s.books.items;

@@ -76,7 +76,7 @@ impl<'a> Model for Words<'a> {
     ghost use Rattle.std.specs.Prelude.{List, ℕ};
     ghost use Rattle.std.specs.Option.{option_copied};
     ghost use Rattle.std.specs.List.{position_or_len};
-    ghost use Rattle.patch_base.specs.Texts.{words_left};
+    ghost use Rattle.patch_base.specs.inside.Texts.{words_left};
 
     ghost Value = { List (List ℕ) };
 

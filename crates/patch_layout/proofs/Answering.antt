@@ -19,8 +19,8 @@ use Rattle.patch_layout.specs.declared.fault.LayoutFault.TheVariants as fault
 use Rattle.patch_layout.specs.Grid.{Grid}
 use Rattle.patch_layout.specs.Kept.{grid_of}
 use Rattle.patch_layout.specs.Openness.{Least}
-use Rattle.patch_layout.specs.Reading.{Lays}
-use Rattle.patch_layout.specs.LayoutText.{side_word, words_of, InRange, cell_of, site_of, Doubles, Takes, Breaks, Body, BadBody, Header, Formed, FirstBad, Sized, Twice, Laid}
+use Rattle.patch_layout.specs.inside.Reading.{Lays}
+use Rattle.patch_layout.specs.LayoutText.{side_word, words_of, InRange, cell_of, site_of, Doubles, Takes, Breaks, Body, BadBody, Header, Formed, FirstBadText, Sized, Twice, Laid}
 use Rattle.patch_layout.specs.Laws.{GridOrFault}
 use Rattle.patch_layout.proofs.Bodies.{words_of_same}
 use Rattle.patch_layout.proofs.Laying.{equal_or, lays_none, lays_laid, lays_double, doubled_all, laid_all}
@@ -303,7 +303,7 @@ body_or before (text ∷ texts) = elim (takes_or before text) [
 abbrev Shape : List (List ℕ) → Type 0
 Shape texts = (rows : ℕ) × (columns : ℕ) × (ls : List Line) × Formed texts rows columns ls
 
-formed_or : (texts : List (List ℕ)) → Shape texts ⊎ ((n : ℕ) × FirstBad texts n)
+formed_or : (texts : List (List ℕ)) → Shape texts ⊎ ((n : ℕ) × FirstBadText texts n)
 formed_or [] = inr (0, refl)
 formed_or (head ∷ rest) = elim (header_or head) [
   | inr none ↦ inr (0, none)

@@ -9,7 +9,7 @@ use Rattle.patch_layout.specs.declared.line.Line.{Line}
 use Rattle.patch_layout.specs.declared.line.Line.TheVariants as line
 use Rattle.patch_layout.specs.Spread.{Marked}
 use Rattle.patch_layout.specs.LayoutText.{side_word, words_of, InRange, Spells, Doubles, Fresh, Takes, Breaks, Body, BadBody, Formed}
-use Rattle.patch_layout.specs.Reading.{HasKey, Keyed, Proper}
+use Rattle.patch_layout.specs.inside.Reading.{HasKey, Keyed, Proper}
 use Rattle.patch_layout.proofs.Spelled.{differ, patch_port, patch_wall, port_wall}
 use Rattle.patch_layout.proofs.Places.{get_cases, Contains_from_get, get_from_Contains}
 

@@ -7,9 +7,9 @@ use Rattle.patch_layout.specs.declared.layout.Edge.{Edge}
 use Rattle.patch_layout.specs.declared.layout.Edge.TheVariants as edge
 use Rattle.patch_layout.specs.declared.fault.LayoutFault.{LayoutFault}
 use Rattle.patch_layout.specs.declared.fault.LayoutFault.TheVariants as fault
-use Rattle.patch_layout.specs.Grid.{Grid, Wanted, Open, IsAncilla}
-use Rattle.patch_layout.specs.Openness.{Least, Lacks, HasPatches, CutFrom, IsWhole, FirstShut, SidesOpen, IsShut, HasPort, PortShut, Opens}
-use Rattle.patch_layout.specs.LayoutText.{BadBody, Formed, FirstBad, Sized, Twice, IsShort, StandsFor, Refused}
+use Rattle.patch_layout.specs.Grid.{Grid, Demand, Open, IsAncilla}
+use Rattle.patch_layout.specs.Openness.{Least, Lacks, HasPatches, CutFrom, IsWhole, FirstShut, SidesOpen, IsShut, HasAnyPort, PortShut, Opens}
+use Rattle.patch_layout.specs.LayoutText.{BadBody, Formed, FirstBadText, Sized, Twice, IsShort, StandsFor, Refused}
 use Rattle.patch_layout.specs.Laws.{OfForm}
 use Rattle.patch_layout.proofs.Once.{takes_one, formed_one, formed_not_bad, stands_one, open_read}
 
@@ -39,7 +39,7 @@ memory_is (fault.ShutPort f) le = absurd (omega arith)
 memory_is fault.Memory le = refl
 
 -- what holds where an earlier rule isn't broken
-short_of : (text : List ℕ) (w : Wanted) (f : LayoutFault) → 0 < rank f → rank f < 9 → Refused text w f → IsShort text
+short_of : (text : List ℕ) (w : Demand) (f : LayoutFault) → 0 < rank f → rank f < 9 → Refused text w f → IsShort text
 short_of text w fault.TooLong gt lt r = absurd (omega arith)
 short_of text w (fault.Form line) gt lt r = r.0
 short_of text w fault.Size gt lt r = r.0
@@ -57,7 +57,7 @@ HasForm text = (rows : ℕ) × (columns : ℕ) × (ls : List Line) × Formed (li
 form_of : (text : List ℕ) (g : Grid) → StandsFor text g → HasForm text
 form_of text g s = (s.0, s.1, s.2, s.4)
 
-formed_of : (text : List ℕ) (w : Wanted) (f : LayoutFault) → 1 < rank f → rank f < 9 → Refused text w f → HasForm text
+formed_of : (text : List ℕ) (w : Demand) (f : LayoutFault) → 1 < rank f → rank f < 9 → Refused text w f → HasForm text
 formed_of text w fault.TooLong gt lt r = absurd (omega arith)
 formed_of text w (fault.Form line) gt lt r = absurd (omega arith)
 formed_of text w fault.Size gt lt r = let (short, (rows, columns, ls, formed, not-sized)) = r in (rows, columns, ls, formed)
@@ -75,7 +75,7 @@ HasSize text = (rows : ℕ) × (columns : ℕ) × (ls : List Line) × Formed (li
 size_of : (text : List ℕ) (g : Grid) → StandsFor text g → HasSize text
 size_of text g s = (s.0, s.1, s.2, s.4, s.5)
 
-sized_of : (text : List ℕ) (w : Wanted) (f : LayoutFault) → 2 < rank f → rank f < 9 → Refused text w f → HasSize text
+sized_of : (text : List ℕ) (w : Demand) (f : LayoutFault) → 2 < rank f → rank f < 9 → Refused text w f → HasSize text
 sized_of text w fault.TooLong gt lt r = absurd (omega arith)
 sized_of text w (fault.Form line) gt lt r = absurd (omega arith)
 sized_of text w fault.Size gt lt r = absurd (omega arith)
@@ -87,7 +87,7 @@ sized_of text w fault.NoPort gt lt r = size_of text r.0 r.1
 sized_of text w (fault.ShutPort f) gt lt r = size_of text r.0 r.1
 sized_of text w fault.Memory gt lt r = absurd (omega arith)
 
-stands_of : (text : List ℕ) (w : Wanted) (f : LayoutFault) → 3 < rank f → rank f < 9 → Refused text w f → (g : Grid) × StandsFor text g × Opens g w (Some f)
+stands_of : (text : List ℕ) (w : Demand) (f : LayoutFault) → 3 < rank f → rank f < 9 → Refused text w f → (g : Grid) × StandsFor text g × Opens g w (Some f)
 stands_of text w fault.TooLong gt lt r = absurd (omega arith)
 stands_of text w (fault.Form line) gt lt r = absurd (omega arith)
 stands_of text w fault.Size gt lt r = absurd (omega arith)
@@ -99,7 +99,7 @@ stands_of text w fault.NoPort gt lt r = r
 stands_of text w (fault.ShutPort f) gt lt r = r
 stands_of text w fault.Memory gt lt r = absurd (omega arith)
 
-patches_of : (g : Grid) (w : Wanted) (f : LayoutFault) → 4 < rank f → rank f < 9 → Opens g w (Some f) → HasPatches g w.used
+patches_of : (g : Grid) (w : Demand) (f : LayoutFault) → 4 < rank f → rank f < 9 → Opens g w (Some f) → HasPatches g w.used
 patches_of g w fault.TooLong gt lt o = absurd o
 patches_of g w (fault.Form line) gt lt o = absurd o
 patches_of g w fault.Size gt lt o = absurd o
@@ -111,7 +111,7 @@ patches_of g w fault.NoPort gt lt o = o.0
 patches_of g w (fault.ShutPort f) gt lt o = o.0
 patches_of g w fault.Memory gt lt o = absurd o
 
-whole_of : (g : Grid) (w : Wanted) (f : LayoutFault) → 5 < rank f → rank f < 9 → Opens g w (Some f) → IsWhole g
+whole_of : (g : Grid) (w : Demand) (f : LayoutFault) → 5 < rank f → rank f < 9 → Opens g w (Some f) → IsWhole g
 whole_of g w fault.TooLong gt lt o = absurd o
 whole_of g w (fault.Form line) gt lt o = absurd o
 whole_of g w fault.Size gt lt o = absurd o
@@ -123,7 +123,7 @@ whole_of g w fault.NoPort gt lt o = o.1
 whole_of g w (fault.ShutPort f) gt lt o = o.1
 whole_of g w fault.Memory gt lt o = absurd o
 
-open_sides_of : (g : Grid) (w : Wanted) (f : LayoutFault) → 6 < rank f → rank f < 9 → Opens g w (Some f) → SidesOpen g w.used
+open_sides_of : (g : Grid) (w : Demand) (f : LayoutFault) → 6 < rank f → rank f < 9 → Opens g w (Some f) → SidesOpen g w.used
 open_sides_of g w fault.TooLong gt lt o = absurd o
 open_sides_of g w (fault.Form line) gt lt o = absurd o
 open_sides_of g w fault.Size gt lt o = absurd o
@@ -135,7 +135,7 @@ open_sides_of g w fault.NoPort gt lt o = o.2
 open_sides_of g w (fault.ShutPort f) gt lt o = o.2
 open_sides_of g w fault.Memory gt lt o = absurd o
 
-port_of : (g : Grid) (w : Wanted) (f : LayoutFault) → 7 < rank f → rank f < 9 → Opens g w (Some f) → w.rotations ≡ true → HasPort g
+port_of : (g : Grid) (w : Demand) (f : LayoutFault) → 7 < rank f → rank f < 9 → Opens g w (Some f) → w.rotations ≡ true → HasAnyPort g
 port_of g w fault.TooLong gt lt o = absurd o
 port_of g w (fault.Form line) gt lt o = absurd o
 port_of g w fault.Size gt lt o = absurd o
@@ -152,7 +152,7 @@ not_shut g used q edge.X sides (is, none, all) = none (sides q edge.X is)
 not_shut g used q edge.Z sides (is, (x, none), all) = none (sides q edge.Z is)
 
 -- an earlier cause excludes a later one
-opens_first : (g : Grid) (w : Wanted) (e f : LayoutFault) → rank e < rank f → rank f < 9 → Opens g w (Some e) → Opens g w (Some f) → ⊥
+opens_first : (g : Grid) (w : Demand) (e f : LayoutFault) → rank e < rank f → rank f < 9 → Opens g w (Some e) → Opens g w (Some f) → ⊥
 opens_first g w (fault.PatchMissing q) f gt lt ((used, none), least) o = let (c, is) = patches_of g w f gt lt o q used in none c is
 opens_first g w (fault.Split c) f gt lt (has, (first, (anc, least), ((is, cut), lesser))) o = cut (whole_of g w f gt lt o first c anc is)
 opens_first g w (fault.Shut q e) f gt lt (has, whole, shut) o = not_shut g w.used q e (open_sides_of g w f gt lt o) shut
@@ -165,13 +165,13 @@ opens_first g w (fault.Overlap d) f gt lt c o = c
 opens_first g w fault.Memory f gt lt c o = c
 
 -- the causes of one grid
-same_grid : (text : List ℕ) (w : Wanted) (g h : Grid) (f : LayoutFault) → StandsFor text g → StandsFor text h → Opens h w (Some f) → Opens g w (Some f)
+same_grid : (text : List ℕ) (w : Demand) (g h : Grid) (f : LayoutFault) → StandsFor text g → StandsFor text h → Opens h w (Some f) → Opens g w (Some f)
 same_grid text w g h f s t o = let P : Grid → Type 0 = λ x. Opens x w (Some f) in subst P (sym (stands_one text g h s t)) o
 
-late_first : (text : List ℕ) (w : Wanted) (g : Grid) (e f : LayoutFault) → 3 < rank e → rank e < rank f → rank f < 9 → StandsFor text g → Opens g w (Some e) → Refused text w f → ⊥
+late_first : (text : List ℕ) (w : Demand) (g : Grid) (e f : LayoutFault) → 3 < rank e → rank e < rank f → rank f < 9 → StandsFor text g → Opens g w (Some e) → Refused text w f → ⊥
 late_first text w g e f le gt lt s o r = let (h, t, p) = stands_of text w f (omega arith) lt r in opens_first g w e f gt lt o (same_grid text w g h f s t p)
 
-refused_first : (text : List ℕ) (w : Wanted) (e f : LayoutFault) → rank e < rank f → rank f < 9 → Refused text w e → Refused text w f → ⊥
+refused_first : (text : List ℕ) (w : Demand) (e f : LayoutFault) → rank e < rank f → rank f < 9 → Refused text w e → Refused text w f → ⊥
 refused_first text w fault.TooLong f gt lt long r = let short = short_of text w f gt lt r in omega arith
 refused_first text w (fault.Form line) f gt lt (short, (n, is, bad)) r = let (rows, columns, ls, formed) = formed_of text w f gt lt r in formed_not_bad (lines text) rows columns ls n formed bad
 refused_first text w fault.Size f gt lt (short, (r, c, xs, formed, not-sized)) q =
@@ -212,7 +212,7 @@ bad_one before (text ∷ texts) (suc m) (suc n) (a, s, b) (d, t, c) =
     let e : m ≡ n = bad_one a texts m n b (subst P (sym (takes_one before text a d s t)) c) in
     ap suc e
 
-first_bad_one : (texts : List (List ℕ)) (m n : ℕ) → FirstBad texts m → FirstBad texts n → m ≡ n
+first_bad_one : (texts : List (List ℕ)) (m n : ℕ) → FirstBadText texts m → FirstBadText texts n → m ≡ n
 first_bad_one [] m n b c = b ∙ sym c
 first_bad_one (text ∷ texts) zero zero b c = refl
 first_bad_one (text ∷ texts) zero (suc n) b ((r, c, h), d) = absurd (b r c h)
@@ -242,7 +242,7 @@ split_one : (g : Grid) (a b c d : ℕ) → Least (IsAncilla g) a → Least (IsAn
 split_one g a b c d x y s t = let P : ℕ → Type 0 = λ z. Least (CutFrom g z) d in least_one (CutFrom g a) c d s (subst P (sym (least_one (IsAncilla g) a b x y)) t)
 
 -- two refusals of one kind are one
-refused_same : (text : List ℕ) (w : Wanted) (e f : LayoutFault) → rank e ≡ rank f → Refused text w e → Refused text w f → e ≡ f
+refused_same : (text : List ℕ) (w : Demand) (e f : LayoutFault) → rank e ≡ rank f → Refused text w e → Refused text w f → e ≡ f
 refused_same text w fault.TooLong fault.TooLong same r s = refl
 refused_same text w (fault.Form line) (fault.Form line') same (short, (m, e, b)) (short', (n, f, c)) = let h = first_bad_one (lines text) m n b c in let i : line ≡ line' = omega arith in ap (λ (x : ℕ). fault.Form x) i
 refused_same text w fault.Size fault.Size same r s = refl
@@ -265,7 +265,7 @@ refused_same text w (fault.ShutPort p) (fault.ShutPort q) same (g, s, (has, whol
 refused_same text w fault.Memory fault.Memory same r s = refl
 refused_same text w _ _ same r s = absurd (omega arith)
 
-refused_one : (text : List ℕ) (w : Wanted) (e f : LayoutFault) → rank e < 9 → rank f < 9 → Refused text w e → Refused text w f → e ≡ f
+refused_one : (text : List ℕ) (w : Demand) (e f : LayoutFault) → rank e < 9 → rank f < 9 → Refused text w e → Refused text w f → e ≡ f
 refused_one text w e f le lf r s = elim (cases_lt (rank e) (rank f)) [
   | inl lt ↦ absurd (refused_first text w e f lt lf r s)
   | inr ge ↦ elim (cases_lt (rank f) (rank e)) [
@@ -287,7 +287,7 @@ form_rank (fault.ShutPort p) o = absurd o
 form_rank fault.Memory o = absurd o
 
 -- what must be served has no part in it
-any_wanted : (text : List ℕ) (v w : Wanted) (f : LayoutFault) → OfForm f → Refused text v f → Refused text w f
+any_wanted : (text : List ℕ) (v w : Demand) (f : LayoutFault) → OfForm f → Refused text v f → Refused text w f
 any_wanted text v w fault.TooLong o r = r
 any_wanted text v w (fault.Form line) o r = r
 any_wanted text v w fault.Size o r = r
@@ -299,11 +299,11 @@ any_wanted text v w fault.NoPort o r = absurd o
 any_wanted text v w (fault.ShutPort p) o r = absurd o
 any_wanted text v w fault.Memory o r = absurd o
 
-pub one_fault : (text : List ℕ) (v w : Wanted) (e f : LayoutFault) → OfForm e → OfForm f → Refused text v e → Refused text w f → e ≡ f
+pub one_fault : (text : List ℕ) (v w : Demand) (e f : LayoutFault) → OfForm e → OfForm f → Refused text v e → Refused text w f → e ≡ f
 one_fault text v w e f oe fo r s = refused_one text w e f (form_rank e oe) (form_rank f fo) (any_wanted text v w e oe r) s
 
 -- a text with a cause is refused for it, or where memory is out
-pub read_told : (text : List ℕ) (w : Wanted) (r : Result Grid LayoutFault) → IfOk r (StandsFor text) → IfOk r (λ g. Open g w) → IfErr r (Refused text w) → (f : LayoutFault) → f ≢ fault.Memory → Refused text w f
+pub read_told : (text : List ℕ) (w : Demand) (r : Result Grid LayoutFault) → IfOk r (StandsFor text) → IfOk r (λ g. Open g w) → IfErr r (Refused text w) → (f : LayoutFault) → f ≢ fault.Memory → Refused text w f
     → MatchResult r (λ _. ⊥) (λ e. (e ≡ f) ⊎ (e ≡ fault.Memory))
 read_told text w (Ok g) stands opened refused f other cause = other (open_read text w g f stands opened cause)
 read_told text w (Err e) stands opened refused f other cause = elim (cases_lt (rank e) 9) [

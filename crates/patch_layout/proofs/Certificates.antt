@@ -10,7 +10,7 @@ use Rattle.patch_layout.specs.Grid.{Grid, Sound, Adjacent, IsAncilla}
 use Rattle.patch_layout.specs.Region.{Fit, Touches, OnSide, AreJoined, wanted_sides}
 use Rattle.patch_layout.specs.Certificate.{Certified, ParentFits, Each}
 use Rattle.patch_layout.specs.Case.{Ascending, case}
-use Rattle.patch_layout.specs.Tree.{TouchEach}
+use Rattle.patch_layout.specs.inside.Tree.{TouchEach}
 use Rattle.patch_layout.proofs.Places.{get_below, same_entry, get_from_Contains, Contains_from_get}
 use Rattle.patch_layout.proofs.Looking.{one_place}
 use Rattle.patch_layout.proofs.Certifying.{certified_both}

@@ -13,7 +13,7 @@ use Rattle.patch_layout.specs.Grid.{Grid, Sound, IsAncilla, IsPatch}
 use Rattle.patch_layout.specs.Region.{Touches, Fit, AreJoined, sides_of, sides_from, wanted_sides}
 use Rattle.patch_layout.specs.Certificate.{Case, Certified, CellFits, ParentFits, PortFits, Patched, Each}
 use Rattle.patch_layout.specs.Case.{Ascending}
-use Rattle.patch_layout.specs.Tree.{TouchEach}
+use Rattle.patch_layout.specs.inside.Tree.{TouchEach}
 use Rattle.patch_layout.proofs.Asked.{side_count_is}
 use Rattle.patch_layout.proofs.Places.{same_entry, get_below, Contains_from_get}
 use Rattle.patch_layout.proofs.Fits.{certified_fits}

@@ -11,7 +11,8 @@ use Rattle.patch_layout.specs.declared.layout.Side.{Side}
 use Rattle.patch_layout.specs.Grid.{Grid, IsPatch, Sound}
 use Rattle.patch_layout.specs.Region.{Fit, OnSide, sides_of, sides_from, port_side, wanted_sides}
 use Rattle.patch_layout.specs.declared.plan.Fault.{Fault}
-use Rattle.patch_layout.specs.Certificate.{TouchAt, TouchFits, BadFrom, Judged, LetterPatched, Patched, Case, Checked}
+use Rattle.patch_layout.specs.Certificate.{TouchFits, LetterPatched, Patched, Case, Checked}
+use Rattle.patch_layout.specs.inside.Certificate.{TouchAt, BadFrom, Judged}
 use Rattle.patch_layout.specs.declared.plan.Parent.{Parent}
 use Rattle.patch_layout.specs.Case.{case}
 use Rattle.patch_layout.proofs.Fits.{certified_fits}

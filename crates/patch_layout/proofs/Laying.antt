@@ -11,7 +11,7 @@ use Rattle.patch_layout.specs.Grid.{Sound}
 use Rattle.patch_layout.specs.Kept.{grid_of}
 use Rattle.patch_layout.specs.Openness.{Least}
 use Rattle.patch_layout.specs.LayoutText.{InRange, cell_of, site_of, Doubles, Sized, Twice, Laid}
-use Rattle.patch_layout.specs.Reading.{Proper, TwiceTo, CellIs, Lays}
+use Rattle.patch_layout.specs.inside.Reading.{Proper, TwiceTo, CellIs, Lays}
 use Rattle.patch_layout.proofs.Places.{same_entry, get_set_here, get_set_other, Contains_from_get, get_from_Contains}
 
 -- no line makes an ancilla cell

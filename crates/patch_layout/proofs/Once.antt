@@ -12,9 +12,9 @@ use Rattle.patch_layout.specs.declared.layout.Site.TheVariants as site
 use Rattle.patch_layout.specs.declared.layout.Edge.TheVariants as edge
 use Rattle.patch_layout.specs.declared.fault.LayoutFault.{LayoutFault}
 use Rattle.patch_layout.specs.declared.fault.LayoutFault.TheVariants as fault
-use Rattle.patch_layout.specs.Grid.{Grid, Wanted, Open}
+use Rattle.patch_layout.specs.Grid.{Grid, Demand, Open}
 use Rattle.patch_layout.specs.Openness.{Opens}
-use Rattle.patch_layout.specs.LayoutText.{words_of, cell_of, site_of, Takes, Body, BadBody, Header, Formed, FirstBad, Sized, Twice, Laid, StandsFor, Refused}
+use Rattle.patch_layout.specs.LayoutText.{words_of, cell_of, site_of, Takes, Body, BadBody, Header, Formed, FirstBadText, Sized, Twice, Laid, StandsFor, Refused}
 use Rattle.patch_layout.specs.Laws.{OfForm}
 use Rattle.patch_layout.proofs.Bodies.{words_of_same}
 use Rattle.patch_layout.proofs.Laying.{equal_or}
@@ -77,7 +77,7 @@ pub formed_one : (texts : List (List ℕ)) (r c s d : ℕ) (xs ys : List Line) �
 formed_one [] r c s d xs ys f g = absurd f
 formed_one (text ∷ texts) r c s d xs ys (h, b) (k, e) = let w = header_one text r c s d h k in (w.0, w.1, body_one [] texts xs ys b e)
 
-pub formed_not_bad : (texts : List (List ℕ)) (r c : ℕ) (xs : List Line) (n : ℕ) → Formed texts r c xs → FirstBad texts n → ⊥
+pub formed_not_bad : (texts : List (List ℕ)) (r c : ℕ) (xs : List Line) (n : ℕ) → Formed texts r c xs → FirstBadText texts n → ⊥
 formed_not_bad [] r c xs n f bad = f
 formed_not_bad (text ∷ texts) r c xs zero (h, b) bad = bad r c h
 formed_not_bad (text ∷ texts) r c xs (suc n) (h, b) bad = body_not_bad [] texts xs n b bad.1
@@ -126,7 +126,7 @@ stands_one text g h (r, c, xs, short, formed, sized, once, laid) (s, d, ys, shor
     laid_one r c xs g h laid (subst R (sym w.2) (subst Q (sym w.1) (subst P (sym w.0) laid')))
 
 -- what is open has no cause to be refused
-open_not : (g : Grid) (w : Wanted) (f : LayoutFault) → Open g w → Opens g w (Some f) → ⊥
+open_not : (g : Grid) (w : Demand) (f : LayoutFault) → Open g w → Opens g w (Some f) → ⊥
 open_not g w (fault.PatchMissing q) o ((used, none), least) = let (d, (c, is, on)) = o.sides q edge.X used in none c is
 open_not g w (fault.Split c) o (has, (first, (anc, least), ((is, cut), lesser))) = cut (o.joined first c anc is)
 open_not g w (fault.Shut q edge.X) o (has, whole, (used, none, all)) = none (o.sides q edge.X used)
@@ -140,11 +140,11 @@ open_not g w (fault.Overlap c) o b = b
 open_not g w fault.Memory o b = b
 
 -- a text that stands for an open grid is refused only where memory is out
-stands_open : (text : List ℕ) (w : Wanted) (g h : Grid) (f : LayoutFault) → StandsFor text g → Open g w → StandsFor text h → Opens h w (Some f) → ⊥
+stands_open : (text : List ℕ) (w : Demand) (g h : Grid) (f : LayoutFault) → StandsFor text g → Open g w → StandsFor text h → Opens h w (Some f) → ⊥
 stands_open text w g h f s o t cause = let P : Grid → Type 0 = λ x. Opens x w (Some f) in open_not g w f o (subst P (sym (stands_one text g h s t)) cause)
 
 -- a text that stands for a grid isn't refused for its form
-pub stands_not : (text : List ℕ) (g : Grid) (w : Wanted) (f : LayoutFault) → StandsFor text g → OfForm f → Refused text w f → ⊥
+pub stands_not : (text : List ℕ) (g : Grid) (w : Demand) (f : LayoutFault) → StandsFor text g → OfForm f → Refused text w f → ⊥
 stands_not text g w fault.TooLong (r, c, ls, short, formed, sized, once, laid) o long = omega arith
 stands_not text g w (fault.Form line) (r, c, ls, short, formed, sized, once, laid) o (short', (n, e, bad)) = formed_not_bad (lines text) r c ls n formed bad
 stands_not text g w fault.Size (r, c, xs, short, formed, sized, once, laid) o (short', (s, d, ys, formed', not-sized)) =
@@ -164,7 +164,7 @@ stands_not text g w fault.NoPort s o r = o
 stands_not text g w (fault.ShutPort p) s o r = o
 stands_not text g w fault.Memory s o r = o
 
-pub open_read : (text : List ℕ) (w : Wanted) (g : Grid) (f : LayoutFault) → StandsFor text g → Open g w → Refused text w f → f ≡ fault.Memory
+pub open_read : (text : List ℕ) (w : Demand) (g : Grid) (f : LayoutFault) → StandsFor text g → Open g w → Refused text w f → f ≡ fault.Memory
 open_read text w g fault.TooLong s o r = absurd (stands_not text g w fault.TooLong s tt r)
 open_read text w g (fault.Form line) s o r = absurd (stands_not text g w (fault.Form line) s tt r)
 open_read text w g fault.Size s o r = absurd (stands_not text g w fault.Size s tt r)
@@ -176,6 +176,6 @@ open_read text w g fault.NoPort s o (h, t, cause) = absurd (stands_open text w g
 open_read text w g (fault.ShutPort p) s o (h, t, cause) = absurd (stands_open text w g h (fault.ShutPort p) s o t cause)
 open_read text w g fault.Memory s o r = refl
 
-pub read_exact : (text : List ℕ) (w : Wanted) (r : Result Grid LayoutFault) → IfOk r (StandsFor text) → IfErr r (Refused text w) → (g : Grid) → StandsFor text g → Open g w → MatchResult r (λ l. l ≡ g) (λ f. f ≡ fault.Memory)
+pub read_exact : (text : List ℕ) (w : Demand) (r : Result Grid LayoutFault) → IfOk r (StandsFor text) → IfErr r (Refused text w) → (g : Grid) → StandsFor text g → Open g w → MatchResult r (λ l. l ≡ g) (λ f. f ≡ fault.Memory)
 read_exact text w (Ok l) stands refused g s o = stands_one text l g stands s
 read_exact text w (Err f) stands refused g s o = open_read text w g f s o refused

@@ -12,7 +12,7 @@ use Rattle.patch_layout.specs.Region.{OnSide}
 use Rattle.patch_layout.specs.Row.{IsUsed}
 use Rattle.patch_layout.proofs.OnSides.{none_on}
 use Rattle.patch_layout.specs.Spread.{Marked, Spread}
-use Rattle.patch_layout.specs.Openness.{Least, Lacks, HasPatches, CutFrom, IsSplit, IsWhole, HasSide, SidesOpen, HasPort, PortShut}
+use Rattle.patch_layout.specs.Openness.{Least, Lacks, HasPatches, CutFrom, IsSplit, IsWhole, HasSide, SidesOpen, HasAnyPort, PortShut}
 use Rattle.patch_layout.proofs.Places.{item_is}
 use Rattle.patch_layout.proofs.Fits.{joins_on, joins_back}
 use Rattle.patch_layout.proofs.Trees.{only, leads_wider}
@@ -112,7 +112,7 @@ split_is g first None least all = λ a b ia ib.
     joins_on g (IsAncilla g) a first b (joins_back g (IsAncilla g) (λ x p. slice_get_within g.sites x site.Ancilla p) first a (all a ia)) (all b ib)
 split_is g first (Some c) least cut = (first, least, cut)
 
-pub ports_none : (g : Grid) (n : ℕ) → length g.sites ≤ n → ((m : ℕ) → m < n → (f : ℕ) → IsPort g f m → ⊥) → HasPort g → ⊥
+pub ports_none : (g : Grid) (n : ℕ) → length g.sites ≤ n → ((m : ℕ) → m < n → (f : ℕ) → IsPort g f m → ⊥) → HasAnyPort g → ⊥
 ports_none g n end none (c, f, (level, store, is)) = none c (let w : c < length g.sites = slice_get_within g.sites c (site.Port f level store) is in omega arith) f (level, store, is)
 
 abbrev pub PortsOpenTo : Grid → ℕ → Type 0

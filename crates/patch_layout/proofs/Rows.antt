@@ -10,7 +10,7 @@ use Rattle.patch_layout.specs.declared.layout.Site.{Site}
 use Rattle.patch_layout.specs.declared.layout.Site.TheVariants as site
 use Rattle.patch_layout.specs.Grid.{Grid, Sound, Open, IsAncilla, IsPatch, IsPort, Adjacent, Joins, OnPatch, OnPort, sides, sides_at, ancilla, if_ancilla, left, right, above, below}
 use Rattle.patch_layout.specs.Kept.{grid_of}
-use Rattle.patch_layout.specs.Row.{patch_row, row_grid, wanted, IsUsed}
+use Rattle.patch_layout.specs.Row.{patch_row, row_grid, demand, IsUsed}
 use Rattle.patch_layout.proofs.Places.{same_entry}
 use Rattle.patch_layout.proofs.Neighbours.{is_left, is_above}
 use Rattle.patch_layout.proofs.Fits.{joins_on, joins_back}
@@ -283,7 +283,7 @@ port_side n =
     (d, (2 * n + 2 + (2 * n + 1), port_cell n, above_side g (2 * n + 2 + (2 * n + 1)) d (site.Port 0 true 1) edge.Z (port_is n) up (upper n d lt) refl))
 
 -- open for all qubits that have a patch
-pub row_open : (n : ℕ) (used : List Bool) (rotations : Bool) → ((q : ℕ) → IsUsed used q → q < n) → Open (row_grid n) (wanted used rotations)
+pub row_open : (n : ℕ) (used : List Bool) (rotations : Bool) → ((q : ℕ) → IsUsed used q → q < n) → Open (row_grid n) (demand used rotations)
 row_open n used rotations within = record {
   joined = row_joined n;
   sides = λ q e is. patch_side n q e (within q is);
@@ -321,7 +321,7 @@ pub row_made : (n : ℕ) (sites : List Site) (g : Grid) → sites ≡ (row_grid 
 row_made n sites g e f = let P : List Site → Type 0 = λ ss. g ≡ grid_of 2 (2 * n + 2) ss in subst P e f
 
 pub made_open : (qubits n : ℕ) (used : List Bool) (rotations : Bool) (g : Grid) → g ≡ row_grid n → n ≡ min qubits 64 → length used ≡ qubits → ((q : ℕ) → 64 ≤ q → IsUsed used q → ⊥)
-    → Open g (wanted used rotations)
+    → Open g (demand used rotations)
 made_open qubits n used rotations g e f size none =
-    let P : Grid → Type 0 = λ x. Open x (wanted used rotations) in
+    let P : Grid → Type 0 = λ x. Open x (demand used rotations) in
     subst P (sym e) (row_open n used rotations (λ q is. let w = all_patched used qubits size none q is in omega arith))

@@ -5,7 +5,7 @@ use Rattle.patch_layout.specs.declared.line.Line.{Line}
 use Rattle.patch_layout.specs.declared.line.Line.TheVariants as line
 use Rattle.patch_base.specs.Texts.{words}
 use Rattle.patch_layout.specs.LayoutText.{side_word, words_of, InRange, Spells, Header}
-use Rattle.patch_layout.specs.Reading.{PatchAfter, PortAfter, WallAfter}
+use Rattle.patch_layout.specs.inside.Reading.{PatchAfter, PortAfter, WallAfter}
 
 abbrev pub NoNumber : List (List ℕ) → Type 0
 NoNumber ws = (v : ℕ) (rest : List (List ℕ)) → v < 2 ^ 32 → ws ≡ decimal v ∷ rest → ⊥

@@ -7,7 +7,8 @@ use Rattle.patch_layout.specs.declared.walk.Reached.{Reached}
 use Rattle.patch_layout.specs.declared.plan.Parent.{Parent}
 use Rattle.patch_layout.specs.Grid.{Grid, Adjacent, Leads, Joins}
 use Rattle.patch_layout.specs.Spread.{Marked, Spread, starting}
-use Rattle.patch_layout.specs.Tree.{Placed, Tree, Named}
+use Rattle.patch_layout.specs.Tree.{Tree, ParentsNamed}
+use Rattle.patch_layout.specs.inside.Tree.{Placed}
 use Rattle.patch_layout.specs.Region.{AreJoined}
 use Rattle.patch_layout.specs.Certificate.{ParentFits, Each}
 use Rattle.patch_layout.proofs.Places.{same_entry, get_below, get_cases, get_set_here, get_set_other, Contains_from_get, get_from_Contains}
@@ -58,8 +59,8 @@ place_of cells queue places t at' k r is =
 
 -- one more entry is named
 pub named_more : (cells : List ℕ) (queue : List Reached) (places : List ℕ) (parents : List Parent) (n : ℕ) (d : Reached) → Tree cells queue
-    → ((i c : ℕ) → slice_get cells i ≡ Some c → slice_get places c ≡ Some i) → length parents ≡ length cells → n < length queue → Named queue places parents n
-    → Named queue places (slice_set parents (get_or places (get_or queue n d).cell 0) (record { index = get_or places (get_or queue (get_or queue n d).from d).cell 0; depth = (get_or queue n d).steps })) (n + 1)
+    → ((i c : ℕ) → slice_get cells i ≡ Some c → slice_get places c ≡ Some i) → length parents ≡ length cells → n < length queue → ParentsNamed queue places parents n
+    → ParentsNamed queue places (slice_set parents (get_or places (get_or queue n d).cell 0) (record { index = get_or places (get_or queue (get_or queue n d).from d).cell 0; depth = (get_or queue n d).steps })) (n + 1)
 named_more cells queue places parents n d t at' sizes in' named k r b i j kn er eb ei ej =
     let r0 : Reached = get_or queue n d in
     let er0 : slice_get queue n ≡ Some r0 = slice_get-get_or queue n d in' in
@@ -119,7 +120,7 @@ tree_of g cells marks places first queue head seen p has s =
 
 -- an entry's cell has a parent of the entry's depth
 pub named_at : (cells : List ℕ) (queue : List Reached) (places : List ℕ) (parents : List Parent) → Tree cells queue → ((i c : ℕ) → slice_get cells i ≡ Some c → slice_get places c ≡ Some i)
-    → Named queue places parents (length queue) → (k : ℕ) (r : Reached) (i : ℕ) → slice_get queue k ≡ Some r → slice_get cells i ≡ Some r.cell
+    → ParentsNamed queue places parents (length queue) → (k : ℕ) (r : Reached) (i : ℕ) → slice_get queue k ≡ Some r → slice_get cells i ≡ Some r.cell
     → (b : Reached) × (j : ℕ) × (slice_get queue r.from ≡ Some b) × (slice_get cells j ≡ Some b.cell) × (slice_get parents i ≡ Some (record { index = j; depth = r.steps }))
 named_at cells queue places parents t at' named k r i er ei =
     let (b, eb) = get_below queue r.from (t.base k r er) in
@@ -133,7 +134,7 @@ leads_wider g P Q T (c ∷ cs) a f (adj, p, rest) = (adj, f c p, leads_wider g P
 -- where the region is joined, each parent fits
 pub tree_fits : (g : Grid) (cells : List ℕ) (marks : List Bool) (places : List ℕ) (parents : List Parent) (first : ℕ) (queue : List Reached) (seen : List Bool)
     → slice_get cells 0 ≡ Some first → AllPairs (λ a b. a ≢ b) cells → Placed cells marks places → Spread g (Marked marks) (first ∷ []) queue (length queue) seen
-    → Named queue places parents (length queue) → ((a b : ℕ) → Contains cells a → Contains cells b → Joins g (Contains cells) a b)
+    → ParentsNamed queue places parents (length queue) → ((a b : ℕ) → Contains cells a → Contains cells b → Joins g (Contains cells) a b)
     → Each (ParentFits g cells parents) (length cells)
 tree_fits g cells marks places parents first queue seen at-first distinct p s named joined i in' =
     let has : Contains cells first = Contains_from_get cells 0 first at-first in
@@ -183,10 +184,10 @@ walked_tree g cells marks places first queue q seen at-first p e w =
 
 pub walked_parents : (g : Grid) (cells : List ℕ) (marks : List Bool) (places : List ℕ) (parents : List Parent) (first : ℕ) (queue q : List Reached) (seen : List Bool)
     → slice_get cells 0 ≡ Some first → AllPairs (λ a b. a ≢ b) cells → Placed cells marks places → q ≡ queue
-    → Spread g (Marked marks) (first ∷ []) queue (length queue) seen → Named q places parents (length q) → AreJoined g cells
+    → Spread g (Marked marks) (first ∷ []) queue (length queue) seen → ParentsNamed q places parents (length q) → AreJoined g cells
     → Each (ParentFits g cells parents) (length cells)
 walked_parents g cells marks places parents first queue q seen at-first distinct p e w named joined =
-    let P : List Reached → Type 0 = λ x. Named x places parents (length x) in
+    let P : List Reached → Type 0 = λ x. ParentsNamed x places parents (length x) in
     tree_fits g cells marks places parents first queue seen at-first distinct p w (subst P e named) joined
 
 pub take_front : {X : Type 0} (xs ys : List X) → take (length xs) (xs ++ ys) ≡ xs

@@ -10,7 +10,7 @@ use Rattle.patch_layout.specs.declared.layout.Side.{Side}
 use Rattle.patch_layout.specs.declared.layout.Side.TheVariants as side
 use Rattle.patch_layout.specs.declared.layout.Site.{Site}
 use Rattle.patch_layout.specs.declared.layout.Site.TheVariants as site
-use Rattle.patch_layout.specs.Grid.{Grid, Open, Wanted, IsAncilla, sides_at, beside, lies_level, ancilla, if_ancilla, left, right, above, below}
+use Rattle.patch_layout.specs.Grid.{Grid, Open, Demand, IsAncilla, sides_at, beside, lies_level, ancilla, if_ancilla, left, right, above, below}
 use Rattle.patch_layout.specs.Region.{OnSide, Touches, sides_of, sides_from, port_side}
 use Rattle.patch_layout.specs.Row.{ancilla_from, ancilla_cells, HasNamed, WholeFits, WholeAscends, WholeIsAncilla, IsUsed}
 use Rattle.patch_layout.proofs.Places.{get_below, Contains_from_get, get_from_Contains}
@@ -130,7 +130,7 @@ touch_whole : (g : Grid) (s : Side) (d : ℕ) → OnSide g s d → Touches g (an
 touch_whole g s d on = (d, whole_ancilla g d (side_ancilla g s d on), on)
 
 -- the sides of a letter at a used qubit
-touch_letter : (g : Grid) (w : Wanted) → Open g w → (q : ℕ) (l : Letter) → (l ≢ letter.I → IsUsed w.used q) → (rest : List Side) → All (Touches g (ancilla_cells g)) rest
+touch_letter : (g : Grid) (w : Demand) → Open g w → (q : ℕ) (l : Letter) → (l ≢ letter.I → IsUsed w.used q) → (rest : List Side) → All (Touches g (ancilla_cells g)) rest
     → All (Touches g (ancilla_cells g)) (sides_of q l ++ rest)
 touch_letter g w o q letter.I is rest all = all
 touch_letter g w o q letter.X is rest all =
@@ -143,7 +143,7 @@ touch_letter g w o q letter.Y is rest all =
     All-cons (Touches g (ancilla_cells g)) (side.Patch q edge.X) (side.Patch q edge.Z ∷ rest) (touch_whole g (side.Patch q edge.X) d on)
     (All-cons (Touches g (ancilla_cells g)) (side.Patch q edge.Z) rest (touch_whole g (side.Patch q edge.Z) b upon) all)
 
-touch_letters : (g : Grid) (w : Wanted) → Open g w → (q : ℕ) (ls : List Letter) → ((k : ℕ) (l : Letter) → slice_get ls k ≡ Some l → l ≢ letter.I → IsUsed w.used (q + k))
+touch_letters : (g : Grid) (w : Demand) → Open g w → (q : ℕ) (ls : List Letter) → ((k : ℕ) (l : Letter) → slice_get ls k ≡ Some l → l ≢ letter.I → IsUsed w.used (q + k))
     → (rest : List Side) → All (Touches g (ancilla_cells g)) rest → All (Touches g (ancilla_cells g)) (sides_from q ls ++ rest)
 touch_letters g w o q [] is rest all = all
 touch_letters g w o q (l ∷ ls) is rest all =
@@ -153,7 +153,7 @@ touch_letters g w o q (l ∷ ls) is rest all =
     (touch_letter g w o q l (λ other. subst U (let z : q + 0 ≡ q = omega arith in z) (is 0 l refl other)) (sides_from (q + 1) ls ++ rest)
     (touch_letters g w o (q + 1) ls (λ k m e other. subst U (let z : q + suc k ≡ q + 1 + k = omega arith in z) (is (suc k) m e other)) rest all))
 
-touch_port : (g : Grid) (w : Wanted) → Open g w → (port : Option ℕ) → HasNamed g port → All (Touches g (ancilla_cells g)) (port_side port)
+touch_port : (g : Grid) (w : Demand) → Open g w → (port : Option ℕ) → HasNamed g port → All (Touches g (ancilla_cells g)) (port_side port)
 touch_port g w o None has = λ k d b. absurd (omega arith)
 touch_port g w o (Some f) (c, is) =
     let (d, on) = o.ports c f is in All-cons (Touches g (ancilla_cells g)) (side.Port f) [] (touch_whole g (side.Port f) d on) (λ k e b. absurd (omega arith))

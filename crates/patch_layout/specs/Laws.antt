@@ -5,7 +5,7 @@ use Rattle.patch_layout.specs.declared.plan.Parent.{Parent}
 use Rattle.patch_layout.specs.declared.layout.Side.{Side}
 use Rattle.patch_layout.specs.declared.fault.LayoutFault.{LayoutFault}
 use Rattle.patch_layout.specs.declared.fault.LayoutFault.TheVariants as fault
-use Rattle.patch_layout.specs.Grid.{Grid, Wanted, Sound, Adjacent, IsAncilla, IsPatch}
+use Rattle.patch_layout.specs.Grid.{Grid, Demand, Sound, Adjacent, IsAncilla, IsPatch}
 use Rattle.patch_layout.specs.Region.{Fit, OnSide}
 use Rattle.patch_layout.specs.Certificate.{Case, Certified}
 use Rattle.patch_layout.specs.Case.{case, Ascending}
@@ -52,11 +52,11 @@ OfForm _ = ⊥
 abbrev pub GridOrFault : Type 0
 GridOrFault = (text : List ℕ) →
     ((g : Grid) × StandsFor text g)
-    ⊎ ((f : LayoutFault) × OfForm f × ((w : Wanted) → Refused text w f))
+    ⊎ ((f : LayoutFault) × OfForm f × ((w : Demand) → Refused text w f))
 
 -- a text that stands for a grid isn't refused for its form
 abbrev pub NotBoth : Type 0
-NotBoth = (text : List ℕ) (g : Grid) (w : Wanted) (f : LayoutFault) →
+NotBoth = (text : List ℕ) (g : Grid) (w : Demand) (f : LayoutFault) →
     StandsFor text g → OfForm f → Refused text w f → ⊥
 
 -- a text stands for one grid at most
@@ -65,5 +65,5 @@ OneGrid = (text : List ℕ) (g h : Grid) → StandsFor text g → StandsFor text
 
 -- a text is refused for its form with one fault at most, whatever it must serve
 abbrev pub OneFault : Type 0
-OneFault = (text : List ℕ) (v w : Wanted) (e f : LayoutFault) →
+OneFault = (text : List ℕ) (v w : Demand) (e f : LayoutFault) →
     OfForm e → OfForm f → Refused text v e → Refused text w f → e ≡ f

@@ -7,7 +7,7 @@ use Rattle.patch_layout.specs.declared.layout.Site.{Site}
 use Rattle.patch_layout.specs.declared.layout.Site.TheVariants as site
 use Rattle.patch_layout.specs.declared.fault.LayoutFault.{LayoutFault}
 use Rattle.patch_layout.specs.declared.fault.LayoutFault.TheVariants as fault
-use Rattle.patch_layout.specs.Grid.{Grid, Wanted, IsAncilla}
+use Rattle.patch_layout.specs.Grid.{Grid, Demand, IsAncilla}
 use Rattle.patch_layout.specs.Openness.{Least, Opens}
 
 -- the X sides lie left and right, or above and below
@@ -80,10 +80,10 @@ Formed [] rows columns ls = ⊥
 Formed (head ∷ rest) rows columns ls = Header rows columns head × Body [] rest ls
 
 -- the place of the first text that breaks the form; where there is none at all, that of the header
-abbrev pub FirstBad : List (List ℕ) → ℕ → Type 0
-FirstBad [] n = n ≡ 0
-FirstBad (head ∷ rest) zero = (rows columns : ℕ) → Header rows columns head → ⊥
-FirstBad (head ∷ rest) (suc n) = ((rows : ℕ) × (columns : ℕ) × Header rows columns head) × BadBody [] rest n
+abbrev pub FirstBadText : List (List ℕ) → ℕ → Type 0
+FirstBadText [] n = n ≡ 0
+FirstBadText (head ∷ rest) zero = (rows columns : ℕ) → Header rows columns head → ⊥
+FirstBadText (head ∷ rest) (suc n) = ((rows : ℕ) × (columns : ℕ) × Header rows columns head) × BadBody [] rest n
 
 -- there are 1 to 4,096 cells, and each line names one of them
 pub record Sized (rows columns : ℕ) (ls : List Line) : Type 0 where
@@ -112,9 +112,9 @@ abbrev pub StandsFor : List ℕ → Grid → Type 0
 StandsFor text g = (rows : ℕ) × (columns : ℕ) × (ls : List Line) × IsShort text × Formed (lines text) rows columns ls × Sized rows columns ls × ((c : ℕ) → Twice ls c → ⊥) × Laid rows columns ls g
 
 -- the first rule that a text breaks for what it must serve
-abbrev pub Refused : List ℕ → Wanted → LayoutFault → Type 0
+abbrev pub Refused : List ℕ → Demand → LayoutFault → Type 0
 Refused text w fault.TooLong = 4194304 < length text
-Refused text w (fault.Form line) = IsShort text × ((n : ℕ) × (line ≡ n + 1) × FirstBad (lines text) n)
+Refused text w (fault.Form line) = IsShort text × ((n : ℕ) × (line ≡ n + 1) × FirstBadText (lines text) n)
 Refused text w fault.Size = IsShort text × ((rows : ℕ) × (columns : ℕ) × (ls : List Line) × Formed (lines text) rows columns ls × (Sized rows columns ls → ⊥))
 Refused text w (fault.Overlap cell) = IsShort text × ((rows : ℕ) × (columns : ℕ) × (ls : List Line) × Formed (lines text) rows columns ls × Sized rows columns ls × Least (Twice ls) cell)
 Refused text w (fault.PatchMissing qubit) = (g : Grid) × StandsFor text g × Opens g w (Some (fault.PatchMissing qubit))

@@ -10,5 +10,5 @@ pub mod Row
 pub mod Look
 pub mod Openness
 pub mod LayoutText
-pub mod Reading
 pub mod Laws
+pub mod inside

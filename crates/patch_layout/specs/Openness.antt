@@ -4,7 +4,7 @@ use Rattle.patch_layout.specs.declared.layout.Edge.{Edge}
 use Rattle.patch_layout.specs.declared.layout.Edge.TheVariants as edge
 use Rattle.patch_layout.specs.declared.fault.LayoutFault.{LayoutFault}
 use Rattle.patch_layout.specs.declared.fault.LayoutFault.TheVariants as fault
-use Rattle.patch_layout.specs.Grid.{Grid, Wanted, Open, IsAncilla, IsPatch, IsPort, OnPatch, OnPort, Joins}
+use Rattle.patch_layout.specs.Grid.{Grid, Demand, Open, IsAncilla, IsPatch, IsPort, OnPatch, OnPort, Joins}
 use Rattle.patch_layout.specs.Row.{IsUsed}
 
 -- the least number that P holds of
@@ -44,22 +44,19 @@ SidesOpen g used = (q : ℕ) (e : Edge) → IsUsed used q → HasSide g q e
 abbrev pub IsShut : Grid → List Bool → ℕ → Edge → Type 0
 IsShut g used q e = IsUsed used q × FirstShut g q e × ((p : ℕ) (f : Edge) → p < q → IsUsed used p → HasSide g p f)
 
-abbrev pub HasPort : Grid → Type 0
-HasPort g = (c : ℕ) × (f : ℕ) × IsPort g f c
+abbrev pub HasAnyPort : Grid → Type 0
+HasAnyPort g = (c : ℕ) × (f : ℕ) × IsPort g f c
 
 -- the factory has a port without an ancilla cell on a Z side
 abbrev pub PortShut : Grid → ℕ → Type 0
 PortShut g f = ((c : ℕ) × IsPort g f c) × ((d : ℕ) → OnPort g f d → ⊥)
 
-abbrev pub PortsOpen : Grid → Type 0
-PortsOpen g = (c f : ℕ) → IsPort g f c → (d : ℕ) × OnPort g f d
-
 -- the first cause in the order missing patch, split, shut patch, no port, shut port; None where the grid is open
-abbrev pub Opens : Grid → Wanted → Option LayoutFault → Type 0
+abbrev pub Opens : Grid → Demand → Option LayoutFault → Type 0
 Opens g w None = Open g w
 Opens g w (Some (fault.PatchMissing q)) = Least (Lacks g w.used) q
 Opens g w (Some (fault.Split c)) = HasPatches g w.used × IsSplit g c
 Opens g w (Some (fault.Shut q e)) = HasPatches g w.used × IsWhole g × IsShut g w.used q e
-Opens g w (Some fault.NoPort) = HasPatches g w.used × IsWhole g × SidesOpen g w.used × (w.rotations ≡ true) × (HasPort g → ⊥)
-Opens g w (Some (fault.ShutPort f)) = HasPatches g w.used × IsWhole g × SidesOpen g w.used × (w.rotations ≡ true → HasPort g) × Least (PortShut g) f
+Opens g w (Some fault.NoPort) = HasPatches g w.used × IsWhole g × SidesOpen g w.used × (w.rotations ≡ true) × (HasAnyPort g → ⊥)
+Opens g w (Some (fault.ShutPort f)) = HasPatches g w.used × IsWhole g × SidesOpen g w.used × (w.rotations ≡ true → HasAnyPort g) × Least (PortShut g) f
 Opens g w (Some _) = ⊥

@@ -7,7 +7,7 @@ use Rattle.patch_layout.specs.declared.layout.Site.{Site}
 use Rattle.patch_layout.specs.declared.layout.Site.TheVariants as site
 use Rattle.patch_layout.specs.declared.fault.LayoutFault.{LayoutFault}
 use Rattle.patch_layout.specs.declared.fault.LayoutFault.TheVariants as fault
-use Rattle.patch_layout.specs.Grid.{Grid, Wanted, Open, IsAncilla, IsPort}
+use Rattle.patch_layout.specs.Grid.{Grid, Demand, Open, IsAncilla, IsPort}
 use Rattle.patch_layout.specs.Region.{Fit}
 use Rattle.patch_layout.specs.Case.{Ascending}
 
@@ -20,8 +20,8 @@ patch_row q (suc n) = site.Ancilla ∷ site.Patch q true ∷ patch_row (q + 1) n
 abbrev pub row_grid : ℕ → Grid
 row_grid n = record { rows = 2; columns = 2 * n + 2; sites = replicate (2 * n + 2) site.Ancilla ++ patch_row 0 n }
 
-abbrev pub wanted : List Bool → Bool → Wanted
-wanted used rotations = record { used = used; rotations = rotations }
+abbrev pub demand : List Bool → Bool → Demand
+demand used rotations = record { used = used; rotations = rotations }
 
 abbrev pub IsUsed : List Bool → ℕ → Type 0
 IsUsed used q = slice_get used q ≡ Some true
@@ -56,7 +56,7 @@ HasNamed g port = IfSome port (λ f. (c : ℕ) × IsPort g f c)
 
 -- all ancilla cells of a grid that is open for what is wanted fit every axis on used qubits, and every port that is there
 abbrev pub WholeFits : Type 0
-WholeFits = (g : Grid) (w : Wanted) (axis : Signed) (port : Option ℕ) → Open g w → StandsAtUsed axis w.used → HasNamed g port
+WholeFits = (g : Grid) (w : Demand) (axis : Signed) (port : Option ℕ) → Open g w → StandsAtUsed axis w.used → HasNamed g port
     → 0 < length (ancilla_cells g) → Fit g axis port (ancilla_cells g)
 
 -- they are the ancilla cells, and ascend

@@ -2,7 +2,8 @@
 
 ghost use Rattle.std.specs.Prelude.{◌≡◌, ◌≢◌, ℕ, ◌<◌, ◌≤◌, length, slice_get, Option, Some, None, IfOk, All, AllPairs, is_some, IsTrue, ◌↔◌};
 ghost use Rattle.patch_layout.specs.Grid.{Sound};
-ghost use Rattle.patch_layout.specs.Tree.{Placed, Tree, Named};
+ghost use Rattle.patch_layout.specs.Tree.{Tree, ParentsNamed};
+ghost use Rattle.patch_layout.specs.inside.Tree.{Placed};
 ghost use Rattle.patch_layout.specs.Certificate.{CellFits, ParentFits, Each, Certified};
 ghost use Rattle.patch_layout.specs.Case.{case_of, Ascending};
 ghost use Rattle.patch_layout.specs.Region.{AreJoined, Fit};
@@ -36,7 +37,7 @@ fn name_parents(cells: &[u32], queue: &[Reached], places: &[u32], parents: &mut 
     requires tree { Tree cells.now queue.now }
     requires places { (i c : ℕ) → slice_get cells.now i ≡ Some c → slice_get places.now c ≡ Some i }
     requires sizes { length parents.old ≡ length cells.now }
-    ensures { Named queue.now places.now parents.new (length queue.now) }
+    ensures { ParentsNamed queue.now places.now parents.new (length queue.now) }
 {
     for index in 0..queue.len() {
         let reached = queue[index];

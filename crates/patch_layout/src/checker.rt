@@ -2,7 +2,8 @@
 
 ghost use Rattle.std.specs.Prelude.{◌≡◌, ℕ, ◌+◌, ◌<◌, ◌≤◌, ◌^◌, ◌↔◌, length, slice_get, Option, Some, None, IsTrue, IfNone, ◌∷◌, []};
 ghost use Rattle.patch_layout.specs.Grid.{Sound};
-ghost use Rattle.patch_layout.specs.Certificate.{CellFits, ParentFits, Judged, Each, PortFits, IsChild, NoRootBefore, Patched, LetterPatched, Shaped, side_count, TouchAt, BadFrom, Checked};
+ghost use Rattle.patch_layout.specs.Certificate.{CellFits, ParentFits, Each, PortFits, IsChild, NoRootBefore, Patched, LetterPatched, Shaped, side_count, Checked};
+ghost use Rattle.patch_layout.specs.inside.Certificate.{Judged, TouchAt, BadFrom};
 ghost use Rattle.patch_layout.specs.Region.{Fit, sides_of, port_side, wanted_sides};
 ghost use Rattle.patch_layout.specs.Case.{case, case_of};
 

@@ -3,7 +3,8 @@
 ghost use Rattle.std.specs.Prelude.{◌≡◌, ℕ, ◌<◌, ◌↔◌, length, slice_get, Option, Some, None, IsTrue, IfOk, Contains};
 ghost use Rattle.patch_layout.specs.Kept.{grid_of};
 ghost use Rattle.patch_layout.specs.Region.{OnSide, Ascend};
-ghost use Rattle.patch_layout.specs.Grid.{Sound, IsPatch, IsPort, neighbours, sides, beside, ancilla, tile_of, IsAncilla, Adjacent, HasStore, store_at, lies_level};
+ghost use Rattle.patch_layout.specs.Grid.{Sound, IsPatch, IsPort, neighbours, sides, beside, ancilla, tile_of, IsAncilla, Adjacent, HasStore, lies_level};
+ghost use Rattle.patch_layout.specs.inside.Grid.{store_at};
 
 use crate::tables::{columns_of, note};
 use patch_base::Memory;
@@ -75,7 +76,8 @@ pub struct Layout {
 
 impl Model for Layout {
     ghost use Rattle.patch_layout.specs.Grid.{Grid};
-    ghost use Rattle.patch_layout.specs.Kept.{Kept, grid_of};
+    ghost use Rattle.patch_layout.specs.Kept.{grid_of};
+    ghost use Rattle.patch_layout.specs.inside.Kept.{Kept};
 
     ghost Value = { Grid };
 

@@ -3,7 +3,7 @@
 ghost use Rattle.std.specs.Prelude.{◌≡◌, ◌<◌, ◌^◌, ℕ, Bool, ◌∷◌, [], IsTrue, IsFalse, List, ◌↔◌, IfSome, IfNone, decimal as decimal_text};
 ghost use Rattle.patch_base.specs.Texts.{words};
 ghost use Rattle.patch_layout.specs.LayoutText.{side_word, Spells, Header, cell_of, site_of};
-ghost use Rattle.patch_layout.specs.Reading.{PatchAfter, PortAfter, WallAfter};
+ghost use Rattle.patch_layout.specs.inside.Reading.{PatchAfter, PortAfter, WallAfter};
 ghost use Rattle.patch_layout.specs.declared.line.Line.{Line};
 
 use crate::layout::Site;

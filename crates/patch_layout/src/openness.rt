@@ -4,9 +4,10 @@ ghost use Rattle.std.specs.Prelude.{◌≡◌, ℕ, ◌<◌, ◌≤◌, ◌↔�
 ghost use Rattle.patch_layout.specs.Grid.{Sound, IsAncilla, IsPatch, IsPort, OnPort, Joins};
 ghost use Rattle.patch_layout.specs.Region.{OnSide};
 ghost use Rattle.patch_layout.specs.declared.layout.Edge.{Edge};
-ghost use Rattle.patch_layout.specs.Row.{wanted};
+ghost use Rattle.patch_layout.specs.Row.{demand};
 ghost use Rattle.patch_layout.specs.Spread.{Marked};
-ghost use Rattle.patch_layout.specs.Openness.{Least, Lacks, HasPatches, CutFrom, IsSplit, IsWhole, HasSide, FirstShut, SidesOpen, IsShut, HasPort, PortShut, PortsOpen, Opens};
+ghost use Rattle.patch_layout.specs.Openness.{Least, Lacks, HasPatches, CutFrom, IsSplit, IsWhole, HasSide, FirstShut, SidesOpen, IsShut, HasAnyPort, PortShut, Opens};
+ghost use Rattle.patch_layout.specs.inside.Openness.{PortsOpen};
 
 use crate::fault::LayoutFault;
 use crate::layout::{Edge, Layout, Side, Tile};
@@ -182,7 +183,7 @@ fn is_port(layout: &Layout, cell: u32) -> bool
 
 // Whether there is a port.
 fn has_port(layout: &Layout) -> bool
-    ensures { IsTrue result ↔ HasPort layout.now }
+    ensures { IsTrue result ↔ HasAnyPort layout.now }
 {
     for cell in 0..layout.size() {
         if is_port(layout, cell) {
@@ -223,7 +224,7 @@ pub fn open_fault(
     need: &Need,
 ) -> Result<Option<LayoutFault>, Memory>
     requires { length need.now.used ≡ need.now.qubits }
-    ensures { IfOk result (Opens layout.now (wanted need.now.used need.now.rotations)) }
+    ensures { IfOk result (Opens layout.now (demand need.now.used need.now.rotations)) }
 {
     let used = need.used.as_slice();
     if let Some(qubit) = patch_missing(layout, used, need.qubits) {

@@ -7,10 +7,10 @@ ghost use Rattle.patch_layout.specs.declared.layout.Site.TheVariants as site;
 ghost use Rattle.patch_layout.specs.Grid.{Grid, Open, Sound};
 ghost use Rattle.patch_layout.specs.declared.fault.LayoutFault.{LayoutFault};
 ghost use Rattle.patch_layout.specs.declared.fault.LayoutFault.TheVariants as fault;
-ghost use Rattle.patch_layout.specs.Row.{wanted};
+ghost use Rattle.patch_layout.specs.Row.{demand};
 ghost use Rattle.patch_layout.specs.Spread.{Marked};
 ghost use Rattle.patch_layout.specs.LayoutText.{InRange, cell_of, Doubles, Takes, Breaks, Body, Formed, Sized, Twice, Laid, StandsFor, Refused};
-ghost use Rattle.patch_layout.specs.Reading.{HasKey, Keyed, BodyRefused, FormRefused, Proper, Lays, GridRefused};
+ghost use Rattle.patch_layout.specs.inside.Reading.{HasKey, Keyed, BodyRefused, FormRefused, Proper, Lays, GridRefused};
 
 use crate::fault::LayoutFault;
 use crate::layout::{Layout, Site};
@@ -42,18 +42,18 @@ impl Layout {
         ensures stands { IfOk result (StandsFor text.now) }
         ensures sound { IfOk result Sound }
         ensures open { IfOk result (λ layout.
-            Open layout (wanted need.now.used need.now.rotations)) }
+            Open layout (demand need.now.used need.now.rotations)) }
         ensures refused { IfErr result (Refused text.now
-            (wanted need.now.used need.now.rotations)) }
+            (demand need.now.used need.now.rotations)) }
 
         // A text that stands for an open grid is refused only where memory is out.
         ensures exact { (g : Grid) → StandsFor text.now g
-            → Open g (wanted need.now.used need.now.rotations)
+            → Open g (demand need.now.used need.now.rotations)
             → MatchResult result (λ layout. layout ≡ g) (λ f. f ≡ fault.Memory) }
 
         // A text with a cause to be refused is refused for it, or where memory is out.
         ensures told { (f : LayoutFault) → f ≢ fault.Memory
-            → Refused text.now (wanted need.now.used need.now.rotations) f
+            → Refused text.now (demand need.now.used need.now.rotations) f
             → MatchResult result (λ _. ⊥) (λ e. (e ≡ f) ⊎ (e ≡ fault.Memory)) }
     {
         read_open(alloc, text, need)
@@ -65,8 +65,8 @@ fn read_open(alloc: Global, text: &[u8], need: &Need) -> Result<Layout, LayoutFa
     requires { length need.now.used ≡ need.now.qubits }
     ensures stands { IfOk result (StandsFor text.now) }
     ensures sound { IfOk result Sound }
-    ensures open { IfOk result (λ layout. Open layout (wanted need.now.used need.now.rotations)) }
-    ensures refused { IfErr result (Refused text.now (wanted need.now.used need.now.rotations)) }
+    ensures open { IfOk result (λ layout. Open layout (demand need.now.used need.now.rotations)) }
+    ensures refused { IfErr result (Refused text.now (demand need.now.used need.now.rotations)) }
 {
     if text.len() > BYTES {
         return Err(LayoutFault::TooLong);

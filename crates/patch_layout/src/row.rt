@@ -2,7 +2,7 @@
 
 ghost use Rattle.std.specs.Prelude.{◌≡◌, ℕ, ◌+◌, ◌<◌, ◌≤◌, ◌^◌, min, length, IfOk, IfErr, ◌++◌, drop, MatchOption};
 ghost use Rattle.patch_layout.specs.Grid.{Open, Sound};
-ghost use Rattle.patch_layout.specs.Row.{row_grid, wanted, RowRefused, LeastUsedFrom, IsUsed, ancilla_cells, ancilla_from, WholeFits, WholeAscends, WholeIsAncilla};
+ghost use Rattle.patch_layout.specs.Row.{row_grid, demand, RowRefused, LeastUsedFrom, IsUsed, ancilla_cells, ancilla_from, WholeFits, WholeAscends, WholeIsAncilla};
 
 use crate::fault::LayoutFault;
 use crate::layout::{Layout, Site};
@@ -22,7 +22,7 @@ impl Layout {
         ensures row { IfOk result (λ layout. layout ≡ row_grid (min need.now.qubits 64)) }
         ensures sound { IfOk result Sound }
         ensures open { IfOk result (λ layout.
-            Open layout (wanted need.now.used need.now.rotations)) }
+            Open layout (demand need.now.used need.now.rotations)) }
         ensures refused { IfErr result (RowRefused need.now.used) }
     {
         let patches = need.qubits.min(ROW_PATCHES);

@@ -3,7 +3,7 @@
 ghost use Rattle.std.specs.Prelude.{◌≡◌, ◌≤◌, ◌++◌, length, Option, Some, None, IfOk};
 ghost use Rattle.patch_layout.specs.Region.{sides_of, wanted_sides, Touches};
 ghost use Rattle.patch_layout.specs.Case.{Ascending};
-ghost use Rattle.patch_layout.specs.Tree.{Placing, Touching, TouchEach};
+ghost use Rattle.patch_layout.specs.inside.Tree.{Placing, Touching, TouchEach};
 
 use crate::layout::{Edge, Layout, Side};
 use patch_base::Memory;

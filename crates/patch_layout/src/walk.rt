@@ -2,7 +2,8 @@
 
 ghost use Rattle.std.specs.Prelude.{◌≡◌, ℕ, ◌+◌, ◌<◌, ◌≤◌, ◌++◌, ◌∷◌, [], length, map, true, slice_set, Some, IfOk, All, AllPairs, ◌≢◌, Contains, if◌then◌else◌};
 ghost use Rattle.patch_layout.specs.Grid.{neighbours, Sound};
-ghost use Rattle.patch_layout.specs.Spread.{Marked, is_new, starting, Ended};
+ghost use Rattle.patch_layout.specs.Spread.{Marked, starting};
+ghost use Rattle.patch_layout.specs.inside.Spread.{is_new, Ended};
 
 use crate::layout::Layout;
 use patch_base::Memory;

@@ -13,8 +13,8 @@ use Rattle.pauli_product.specs.declared.word.Word.{Word}
 use Rattle.pauli_product.specs.Letters.{letter_product, letter_phase, letters_clash}
 use Rattle.pauli_product.specs.Signed.{Signed, letters_product, letters_phase, clashes, sign_phase, phase}
 use Rattle.pauli_product.specs.Spelling.{letter_text}
-use Rattle.pauli_product.specs.Words.{word_letters}
-use Rattle.pauli_product.specs.Masks.{all_letters, first_letters, IsClearFrom, HoldsQubits}
+use Rattle.pauli_product.specs.inside.Words.{word_letters}
+use Rattle.pauli_product.specs.inside.Masks.{all_letters, first_letters, IsClearFrom, HoldsQubits}
 use Rattle.pauli_product.proofs.WordLetters.{length-word_letters}
 
 -- ---- the letters of a list of words

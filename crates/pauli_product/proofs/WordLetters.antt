@@ -11,7 +11,7 @@ use Rattle.pauli_product.specs.declared.Letter.TheVariants.{I}
 use Rattle.pauli_product.specs.declared.word.Word.{Word}
 use Rattle.pauli_product.specs.Letters.{letter_product, letter_phase, letters_clash}
 use Rattle.pauli_product.specs.Signed.{letters_product, letters_phase, clashes}
-use Rattle.pauli_product.specs.Words.{letter_of, mask_letters, word_letters}
+use Rattle.pauli_product.specs.inside.Words.{letter_of, mask_letters, word_letters}
 
 pub length-mask_letters : (n x z : ℕ) → length (mask_letters n x z) ≡ n
 unfolding mask_letters

@@ -6,6 +6,5 @@ pub mod Bits
 pub mod Commuting
 pub mod Rows
 pub mod Spelling
-pub mod Words
-pub mod Masks
 pub mod Laws
+pub mod inside

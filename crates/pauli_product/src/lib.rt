@@ -6,8 +6,8 @@ ghost use Rattle.pauli_product.specs.declared.Letter.TheVariants.{I};
 ghost use Rattle.pauli_product.specs.Signed.{Signed, plus, IsInSupport, IsOutside, letters_product, letters_phase, clashes, commute, phase};
 ghost use Rattle.pauli_product.specs.Pulls.{quarter, half, negated, conj};
 ghost use Rattle.pauli_product.specs.Spelling.{sign_text, letter_text, product_text, Spells};
-ghost use Rattle.pauli_product.specs.Words.{word_letters};
-ghost use Rattle.pauli_product.specs.Masks.{all_letters, first_letters, IsClearFrom, HoldsQubits};
+ghost use Rattle.pauli_product.specs.inside.Words.{word_letters};
+ghost use Rattle.pauli_product.specs.inside.Masks.{all_letters, first_letters, IsClearFrom, HoldsQubits};
 
 mod law;
 mod word;
@@ -73,7 +73,7 @@ pub struct Product {
 
 impl Model for Product {
     ghost use Rattle.pauli_product.specs.Signed.{Signed};
-    ghost use Rattle.pauli_product.specs.Masks.{first_letters, HoldsQubits};
+    ghost use Rattle.pauli_product.specs.inside.Masks.{first_letters, HoldsQubits};
 
     ghost Value = { Signed };
 

@@ -4,7 +4,7 @@ ghost use Rattle.std.specs.Prelude.{◌≡◌, ◌≢◌, ℕ, Bool, ◌==◌, �
 ghost use Rattle.std.specs.Int.{bit_at};
 ghost use Rattle.pauli_product.specs.declared.Letter.TheVariants.{I};
 ghost use Rattle.pauli_product.specs.Signed.{letters_product, letters_phase, clashes};
-ghost use Rattle.pauli_product.specs.Words.{letter_of, word_letters};
+ghost use Rattle.pauli_product.specs.inside.Words.{letter_of, word_letters};
 
 use crate::Letter;
 

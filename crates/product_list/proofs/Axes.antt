@@ -5,7 +5,7 @@ use Rattle.std.proofs.lemmas.Bool.{and_parts, eqb-true}
 use Rattle.std.proofs.lemmas.List.{length-map}
 use Rattle.pauli_product.specs.declared.Letter.TheVariants.{I, X, Y, Z}
 use Rattle.pauli_product.specs.Spelling.{sign_text, letter_text, product_text, Spells}
-use Rattle.product_list.specs.ListText.{is_letter, letter_of, is_axis, axis_of}
+use Rattle.product_list.specs.ListText.{is_letter, letter_of, is_axis, axis_in_text}
 
 one_letter : (b : ℕ) (x y z : Bool) → (b == 88) ≡ x → (b == 89) ≡ y → (b == 90) ≡ z → (b == 73 || x || y || z) ≡ true → letter_text (if x then X else if y then Y else if z then Z else I) ≡ b ∷ []
 one_letter b true y z e f g h = ap (λ n. n ∷ []) (sym (eqb-true b 88 e))
@@ -35,16 +35,16 @@ sign_spelled b false e h = ap (λ n. n ∷ []) (sym (eqb-true b 43 (last (b == 4
     last false h = h
 
 pub record IsAxisText (w : List ℕ) : Type 0 where
-  pub spelled : w ≡ product_text (axis_of w)
-  pub long : length w ≡ length (axis_of w).letters + 1
-  pub some : 1 ≤ length (axis_of w).letters
+  pub spelled : w ≡ product_text (axis_in_text w)
+  pub long : length w ≡ length (axis_in_text w).letters + 1
+  pub some : 1 ≤ length (axis_in_text w).letters
 
 some_letter : (bs : List ℕ) → list_any (λ c. not (c == 73)) bs ≡ true → 1 ≤ length bs
 some_letter [] h = absurd (let e : false ≡ true = h in cc)
 some_letter (b ∷ bs) h = omega arith
 
 pub axis_text : (w : List ℕ) → is_axis w ≡ true → IsAxisText w
-unfolding is_axis axis_of
+unfolding is_axis axis_in_text
 axis_text [] h = absurd (let e : false ≡ true = h in cc)
 axis_text (b ∷ bs) h =
     let p = and_parts ((b == 43 || b == 45) && list_all is_letter bs) (list_any (λ c. not (c == 73)) bs) h in
@@ -57,5 +57,5 @@ axis_text (b ∷ bs) h =
       some = omega arith;
     }
 
-pub spells : (w : List ℕ) → is_axis w ≡ true → length w ≤ 1025 → Spells w (axis_of w)
+pub spells : (w : List ℕ) → is_axis w ≡ true → length w ≤ 1025 → Spells w (axis_in_text w)
 spells w h few = let t = axis_text w h in record { spelled = t.spelled; some = t.some; few = let l = t.long in omega arith }

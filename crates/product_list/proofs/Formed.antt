@@ -19,7 +19,7 @@ use Rattle.patch_base.specs.Texts.{lines, words}
 use Rattle.patch_base.specs.Names.{IsName, is_name, is_word_byte, is_keyword, begins_as_name}
 use Rattle.product_list.specs.declared.line.Form.{Form}
 use Rattle.product_list.proofs.Ruling.{at_ok}
-use Rattle.product_list.specs.Listable.{AreDeclared, HasLetter, HasSmallValue, IsListable, IsNext}
+use Rattle.product_list.specs.Listable.{AreDeclared, AxisHasLetter, HasSmallValue, IsListable, IsNext}
 use Rattle.product_list.proofs.Declared.{declared_more}
 use Rattle.product_list.specs.declared.line.Form.TheVariants as forms
 use Rattle.source_model.specs.Used.{acts, acts_at}
@@ -30,7 +30,7 @@ use Rattle.source_model.specs.declared.Item.TheVariants as item
 use Rattle.source_model.specs.declared.Register.{Register}
 use Rattle.source_model.specs.SourceRun.{axis_of}
 use Rattle.source_model.specs.Circuits.{BitsBelow, FirstsRunOn, HiddenInOrder, IsOneLine, ReadsWhole, WellFormed, bits_in, kinds}
-use Rattle.product_list.specs.ListText.{Ending, rotation, measurement, hidden, settled, reset, named, unless, in_register, item_for, hidden_after, with_item, with_product, with_register, with_line, Line, register, product, value_of, is_letter, letter_of, is_axis, axis_of as axis_spelled, form_of, name_and_number, at_end, ending_of, product_of, formed, line_of, at_line, is_passed, with_form, with_text, and_then, with_lines, Header, header_of, version_of, number_alone, with_version, few_qubits, bare, list_of, list_circuit}
+use Rattle.product_list.specs.ListText.{Ending, rotation, measurement, hidden, settled, reset, named, unless, in_register, item_for, hidden_after, with_item, with_product, with_register, with_line, Line, register, product, value_of, is_letter, letter_of, is_axis, axis_in_text as axis_spelled, form_of, name_and_number, at_end, ending_of, product_of, formed, line_of, at_line, is_passed, with_form, with_text, and_then, with_lines, Header, header_of, version_of, number_alone, with_version, few_qubits, bare, list_of, list_circuit}
 
 other_byte : (f : ℕ → Bool) (b n : ℕ) → IsTrue (f b) → f n ≡ false → b ≢ n
 other_byte f b n h fails e = let g = ap f e in cc
@@ -197,7 +197,7 @@ register_formed c d name size h one e =
 pub record Kept (c : Circuit) : Type 0 where
   pub formed : WellFormed c
   pub few : length c.items ≤ 16384
-  pub lettered : All HasLetter c.items
+  pub lettered : All AxisHasLetter c.items
   pub declared : AreDeclared [] c.registers
   pub small : All HasSmallValue c.items
 
@@ -253,7 +253,7 @@ record IsKeptItem (axis : Signed) (i : Item) : Type 0 where
 -- what one more item keeps
 record HasMore (c d : Circuit) : Type 0 where
   few : length d.items ≤ 16384
-  lettered : All HasLetter d.items
+  lettered : All AxisHasLetter d.items
   declared : AreDeclared [] d.registers
   small : All HasSmallValue d.items
 
@@ -266,7 +266,7 @@ item_kept c d axis ending (Ok i) few h other same e =
     let more = length-append c.items (i ∷ []) in
     subst (HasMore c) is (record {
       few = omega arith;
-      lettered = all_more HasLetter c.items i h.lettered (subst P (same i refl).same other);
+      lettered = all_more AxisHasLetter c.items i h.lettered (subst P (same i refl).same other);
       declared = h.declared;
       small = all_more HasSmallValue c.items i h.small (same i refl).small;
     })
@@ -301,7 +301,7 @@ line_formed c d (register name size) h n e =
       first = refl;
     } in
     let P : Circuit → Type 0 = λ x. length x.items ≤ 16384 in
-    let Q : Circuit → Type 0 = λ x. All HasLetter x.items in
+    let Q : Circuit → Type 0 = λ x. All AxisHasLetter x.items in
     let R : Circuit → Type 0 = λ x. AreDeclared [] x.registers in
     let S : Circuit → Type 0 = λ x. All HasSmallValue x.items in
     record {
@@ -479,7 +479,7 @@ bare_formed n few = record {
     hidden_in_order = omega arith;
   };
   few = omega arith;
-  lettered = All-nil HasLetter;
+  lettered = All-nil AxisHasLetter;
   declared = tt;
   small = All-nil HasSmallValue;
 }
@@ -518,7 +518,7 @@ pub given_few : (text : List ℕ) (r : Result Circuit CircuitFault) → Gives (�
 given_few text (Ok c) h = let k = kinds_few c.items in let f = (circuit_formed text c h).few in omega arith
 given_few text (Err e) h = tt
 
-pub given_lettered : (text : List ℕ) (r : Result Circuit CircuitFault) → Gives (λ c. c) r (list_circuit text) → IfOk r (λ c. All HasLetter c.items)
+pub given_lettered : (text : List ℕ) (r : Result Circuit CircuitFault) → Gives (λ c. c) r (list_circuit text) → IfOk r (λ c. All AxisHasLetter c.items)
 given_lettered text (Ok c) h = (circuit_formed text c h).lettered
 given_lettered text (Err e) h = tt
 

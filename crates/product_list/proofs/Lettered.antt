@@ -9,7 +9,7 @@ use Rattle.pauli_product.specs.Pulls.{Turn, pull}
 use Rattle.pauli_product.specs.Spelling.{sign_text, letter_text, product_text}
 use Rattle.pauli_product.proofs.Laws.{pull_letters}
 use Rattle.source_model.specs.Used.{acts, acts_at}
-use Rattle.product_list.specs.ListText.{is_letter, letter_of, is_axis, axis_of}
+use Rattle.product_list.specs.ListText.{is_letter, letter_of, is_axis, axis_in_text}
 
 -- some letter is other than I
 abbrev pub has_other : List Letter → Bool
@@ -71,10 +71,10 @@ signed_axis false ls h = rw (letters_all ls) (letters_other ls ∙ h)
 pub axis_there : (p : Signed) → has_other p.letters ≡ true → is_axis (product_text p) ≡ true
 axis_there p h = signed_axis p.sign p.letters h
 
-signed_back : (minus : Bool) (ls : List Letter) → axis_of (sign_text minus ++ flat_map letter_text ls) ≡ record { sign = minus; letters = ls }
-unfolding axis_of
+signed_back : (minus : Bool) (ls : List Letter) → axis_in_text (sign_text minus ++ flat_map letter_text ls) ≡ record { sign = minus; letters = ls }
+unfolding axis_in_text
 signed_back true ls = let e = letters_back ls in ap (λ xs. record { sign = true; letters = xs }) e
 signed_back false ls = let e = letters_back ls in ap (λ xs. record { sign = false; letters = xs }) e
 
-pub axis_back : (p : Signed) → axis_of (product_text p) ≡ p
+pub axis_back : (p : Signed) → axis_in_text (product_text p) ≡ p
 axis_back p = signed_back p.sign p.letters

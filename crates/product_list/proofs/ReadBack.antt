@@ -19,7 +19,7 @@ use Rattle.source_model.specs.declared.Static.{Static}
 use Rattle.source_model.specs.SourceRun.{axis_of}
 use Rattle.source_model.specs.Circuits.{AxesOfLength, HiddenInOrder, ReadsWhole, bits_in, kinds}
 use Rattle.source_model.specs.Statics.{statics, statics_from}
-use Rattle.product_list.specs.Listable.{AreDeclared, HasLetter, HasSmallValue, IsListable, lowered, static_circuit}
+use Rattle.product_list.specs.Listable.{AreDeclared, AxisHasLetter, HasSmallValue, IsListable, lowered, static_circuit}
 use Rattle.product_list.specs.ListText.{few_qubits, header_of, list_circuit, number_alone, version_of}
 use Rattle.product_list.specs.Printed.{header_text, is_special, line_text, list_text, needs_two, product_line, register_text, register_with}
 use Rattle.product_list.proofs.Declared.{IsOne, bit_nowhere}
@@ -33,15 +33,15 @@ use Rattle.product_list.proofs.Wording.{alone_some}
 
 record ItemFits (n : ℕ) (rs : List Register) (i : Item) : Type 0 where
   long : OfLength n (axis_of i)
-  letter : HasLetter i
+  letter : AxisHasLetter i
   whole : ReadsWhole rs i
   small : HasSmallValue i
 
-items_fit : (n : ℕ) (rs : List Register) (is : List Item) → AxesOfLength n is → All HasLetter is → All (ReadsWhole rs) is → All HasSmallValue is → ByRecursion (ItemFits n rs) is
+items_fit : (n : ℕ) (rs : List Register) (is : List Item) → AxesOfLength n is → All AxisHasLetter is → All (ReadsWhole rs) is → All HasSmallValue is → ByRecursion (ItemFits n rs) is
 items_fit n rs [] a b c d = tt
 items_fit n rs (i ∷ is) a b c d = (
-  record { long = All-head (λ (j : Item). OfLength n (axis_of j)) i is a; letter = All-head HasLetter i is b; whole = All-head (ReadsWhole rs) i is c; small = All-head HasSmallValue i is d },
-  items_fit n rs is (All-tail (λ (j : Item). OfLength n (axis_of j)) i is a) (All-tail HasLetter i is b) (All-tail (ReadsWhole rs) i is c) (All-tail HasSmallValue i is d),
+  record { long = All-head (λ (j : Item). OfLength n (axis_of j)) i is a; letter = All-head AxisHasLetter i is b; whole = All-head (ReadsWhole rs) i is c; small = All-head HasSmallValue i is d },
+  items_fit n rs is (All-tail (λ (j : Item). OfLength n (axis_of j)) i is a) (All-tail AxisHasLetter i is b) (All-tail (ReadsWhole rs) i is c) (All-tail HasSmallValue i is d),
 )
 
 pulled_fits : (n : ℕ) (turns : List Turn) (axis : Signed) → TurnsOfLength n turns → OfLength n axis → (q : ℕ) × IsTrue (acts_at axis q) → AxisFits n (pull turns axis)

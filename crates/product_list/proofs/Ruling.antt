@@ -20,8 +20,8 @@ use Rattle.product_list.specs.declared.line.Ending.{Ending as EndingFound}
 use Rattle.product_list.specs.declared.line.Ending.TheVariants as endings
 use Rattle.product_list.specs.declared.line.Line.{Line as LineFound}
 use Rattle.product_list.specs.declared.line.Line.TheVariants as lines
-use Rattle.product_list.specs.Lines.{said, ending_said}
-use Rattle.product_list.specs.ListText.{axis_of, named, unless, item_for, hidden_after, at_line, with_item, with_product, with_register, with_line}
+use Rattle.product_list.specs.inside.Lines.{said, ending_said}
+use Rattle.product_list.specs.ListText.{axis_in_text, named, unless, item_for, hidden_after, at_line, with_item, with_product, with_register, with_line}
 
 broken : {X : Type 0} (b : Bool) (kind : FaultKind) (next : Result X FaultKind) → b ≡ true → unless b kind next ≡ Err kind
 broken b kind next e = rw e refl
@@ -150,10 +150,10 @@ pub line_many : (c : Circuit) (l : LineFound) (axis : _) (e : EndingFound) → l
 unfolding with_line
 line_many c l axis e h k = rw (h, le-leb 16384 (length c.items) k) refl
 
-pub line_sizes : (c : Circuit) (l : LineFound) (axis : _) (e : EndingFound) → l ≡ lines.Product axis e → length c.items < 16384 → length (axis_of axis.now).letters ≢ c.qubits → with_line c (said l) ≡ Err Sizes
+pub line_sizes : (c : Circuit) (l : LineFound) (axis : _) (e : EndingFound) → l ≡ lines.Product axis e → length c.items < 16384 → length (axis_in_text axis.now).letters ≢ c.qubits → with_line c (said l) ≡ Err Sizes
 unfolding with_line
-line_sizes c l axis e h k f = rw (h, lt-leb 16384 (length c.items) k, ne_eqb (length (axis_of axis.now).letters) c.qubits f) refl
+line_sizes c l axis e h k f = rw (h, lt-leb 16384 (length c.items) k, ne_eqb (length (axis_in_text axis.now).letters) c.qubits f) refl
 
-pub line_product : (c : Circuit) (l : LineFound) (axis : _) (e : EndingFound) (p : Signed) → l ≡ lines.Product axis e → length c.items < 16384 → p ≡ axis_of axis.now → length p.letters ≡ c.qubits → with_line c (said l) ≡ with_product c p (ending_said e)
+pub line_product : (c : Circuit) (l : LineFound) (axis : _) (e : EndingFound) (p : Signed) → l ≡ lines.Product axis e → length c.items < 16384 → p ≡ axis_in_text axis.now → length p.letters ≡ c.qubits → with_line c (said l) ≡ with_product c p (ending_said e)
 unfolding with_line
 line_product c l axis e p h k same f = rw (h, ← same, lt-leb 16384 (length c.items) k, eq-eqb (length p.letters) c.qubits f) refl

@@ -9,7 +9,7 @@ use Rattle.qasm_lex.proofs.Wholes.{whole_or_not}
 use Rattle.product_list.specs.declared.line.Form.{Form}
 use Rattle.std.specs.Option.{option_map}
 use Rattle.product_list.specs.declared.line.Form.TheVariants as forms
-use Rattle.product_list.specs.ListText.{value_of, is_axis, axis_of, Ending, rotation, measurement, hidden, settled, reset, register, product, form_of, at_end, number_alone, name_and_number, ending_of, product_of, formed, line_of}
+use Rattle.product_list.specs.ListText.{value_of, is_axis, axis_in_text, Ending, rotation, measurement, hidden, settled, reset, register, product, form_of, at_end, number_alone, name_and_number, ending_of, product_of, formed, line_of}
 
 pub whole : (w : List ℕ) (v : ℕ) → v < 2 ^ 32 → w ≡ decimal v → is_whole w ≡ true
 whole w v l e = sym (whole_or_not w (Some v) (l, e) tt)
@@ -128,7 +128,7 @@ pub product_unended : (form : Form) (ws : List (List ℕ)) (w : List ℕ) (ws' :
 unfolding product_of
 product_unended form ws w ws' e f g = rw (e, f, g) refl
 
-pub product_some : (form : Form) (ws : List (List ℕ)) (w : List ℕ) (ws' : List (List ℕ)) (x : Ending) → ws ≡ w ∷ ws' → is_axis w ≡ true → ending_of form ws' ≡ Some x → product_of form ws ≡ Some (product (axis_of w) x)
+pub product_some : (form : Form) (ws : List (List ℕ)) (w : List ℕ) (ws' : List (List ℕ)) (x : Ending) → ws ≡ w ∷ ws' → is_axis w ≡ true → ending_of form ws' ≡ Some x → product_of form ws ≡ Some (product (axis_in_text w) x)
 unfolding product_of
 product_some form ws w ws' x e f g = rw (e, f, g) refl
 

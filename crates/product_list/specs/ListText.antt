@@ -40,9 +40,9 @@ unfoldable pub is_axis : List ℕ → Bool
 is_axis [] = false
 is_axis (b ∷ bs) = (b == 43 || b == 45) && list_all is_letter bs && list_any (λ c. not (c == 73)) bs
 
-unfoldable pub axis_of : List ℕ → Signed
-axis_of [] = plus []
-axis_of (b ∷ bs) = record { sign = b == 45; letters = map letter_of bs }
+unfoldable pub axis_in_text : List ℕ → Signed
+axis_in_text [] = plus []
+axis_in_text (b ∷ bs) = record { sign = b == 45; letters = map letter_of bs }
 
 -- ---- lines
 
@@ -95,7 +95,7 @@ ending_of forms.Reset ws = option_map reset (number_alone ws)
 -- the words after the first one of a product's line
 unfoldable pub product_of : Form → List (List ℕ) → Option Line
 product_of form [] = None
-product_of form (w ∷ ws) = if is_axis w then option_map (product (axis_of w)) (ending_of form ws) else None
+product_of form (w ∷ ws) = if is_axis w then option_map (product (axis_in_text w)) (ending_of form ws) else None
 
 unfoldable pub formed : Option Form → List (List ℕ) → Option Line
 formed None ws = None

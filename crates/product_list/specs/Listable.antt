@@ -13,8 +13,8 @@ use Rattle.product_list.specs.ListText.{named}
 use Rattle.product_list.specs.Printed.{list_text}
 
 -- an item's axis has a letter other than I
-abbrev pub HasLetter : Item → Type 0
-HasLetter i = (q : ℕ) × IsTrue (acts_at (axis_of i) q)
+abbrev pub AxisHasLetter : Item → Type 0
+AxisHasLetter i = (q : ℕ) × IsTrue (acts_at (axis_of i) q)
 
 -- a condition's value is a word of 32 bits
 abbrev pub HasSmallValue : Item → Type 0
@@ -40,7 +40,7 @@ AreDeclared before (r ∷ rs) = IsNext before r × AreDeclared (before ++ r ∷ 
 pub record IsListable (c : Circuit) : Type 0 where
   pub formed : WellFormed c
   pub few : length (kinds c.items) ≤ 16384
-  pub lettered : All HasLetter c.items
+  pub lettered : All AxisHasLetter c.items
   pub declared : AreDeclared [] c.registers
   pub small : All HasSmallValue c.items
 

@@ -5,9 +5,9 @@ ghost use Rattle.std.specs.Str.{bytes_eq};
 ghost use Rattle.qasm_lex.specs.Tokens.{Gives};
 ghost use Rattle.source_model.specs.Circuits.{bits_in};
 ghost use Rattle.source_model.specs.declared.Register.{Register as Register_of};
-ghost use Rattle.product_list.specs.ListText.{at_line, bare, axis_of, named, with_product, with_register, with_line, with_text, is_axis, item_for, hidden_after};
+ghost use Rattle.product_list.specs.ListText.{at_line, bare, axis_in_text, named, with_product, with_register, with_line, with_text, is_axis, item_for, hidden_after};
 ghost use Rattle.qasm_lex.specs.declared.fault.CircuitFault.TheVariants as fault;
-ghost use Rattle.product_list.specs.Lines.{said, ending_said, HasAxis};
+ghost use Rattle.product_list.specs.inside.Lines.{said, ending_said, HasAxis};
 
 use crate::line::{Ending, Line, line_of};
 use patch_base::{BITS, Memory, PRODUCTS, QUBITS, REGISTERS, is_skipped};
@@ -259,9 +259,9 @@ fn read_axis(alloc: Global, text: &[u8], qubits: u32) -> Result<Option<Product>,
     requires axis { is_axis text.now ≡ true }
     requires few { qubits ≤ 1024 }
     ensures some { IfOk result (λ found.
-        IfSome found (λ p. (p ≡ axis_of text.now) × (length p.letters ≡ qubits))) }
+        IfSome found (λ p. (p ≡ axis_in_text text.now) × (length p.letters ≡ qubits))) }
     ensures none { IfOk result (λ found.
-        IfNone found (length (axis_of text.now).letters ≢ qubits)) }
+        IfNone found (length (axis_in_text text.now).letters ≢ qubits)) }
 {
     if text.len() != qubits as usize + 1 {
         return Ok(None);

@@ -5,7 +5,7 @@ ghost use Rattle.std.specs.Str.{bytes_eq};
 ghost use Rattle.std.specs.List.{list_all, list_any};
 ghost use Rattle.patch_base.specs.Texts.{words};
 ghost use Rattle.product_list.specs.ListText.{is_letter as is_letter_byte, is_axis as is_axis_word, form_of as form_named, name_and_number as name_and_number_of, number_alone as number_alone_of, at_end, ending_of, product_of, line_of as line_said};
-ghost use Rattle.product_list.specs.Lines.{said, ending_said, HasAxis};
+ghost use Rattle.product_list.specs.inside.Lines.{said, ending_said, HasAxis};
 
 use patch_base::{Words, decimal, is_name};
 

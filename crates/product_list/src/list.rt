@@ -4,9 +4,9 @@ ghost use Rattle.std.specs.Prelude.{◌≡◌, ◌<◌, ◌≤◌, Ok, Err, IfOk
 ghost use Rattle.patch_base.specs.Texts.{lines, words};
 ghost use Rattle.qasm_lex.specs.Tokens.{Gives};
 ghost use Rattle.source_model.specs.Circuits.{WellFormed, kinds};
-ghost use Rattle.product_list.specs.Listable.{HasLetter};
+ghost use Rattle.product_list.specs.Listable.{AxisHasLetter};
 ghost use Rattle.product_list.specs.ListText.{header_of, version_of, few_qubits, number_alone as number_alone_of, with_lines, list_circuit};
-ghost use Rattle.product_list.specs.Headers.{header_said};
+ghost use Rattle.product_list.specs.inside.Headers.{header_said};
 
 use crate::draft::{Draft, at};
 use crate::line::number_alone;
@@ -33,7 +33,7 @@ pub fn read_list(alloc: Global, text: &[u8]) -> Result<Circuit, CircuitFault>
     ensures read { Gives (λ c. c) result (list_circuit text.now) }
     ensures formed { IfOk result (λ c. WellFormed c) }
     ensures few { IfOk result (λ c. length (kinds c.items) ≤ 16384) }
-    ensures letters { IfOk result (λ c. All HasLetter c.items) }
+    ensures letters { IfOk result (λ c. All AxisHasLetter c.items) }
 {
     read(alloc, text)
 }

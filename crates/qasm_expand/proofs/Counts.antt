@@ -18,7 +18,7 @@ use Rattle.qasm_expand.specs.declared.cost.Cost.{Cost}
 use Rattle.qasm_expand.specs.declared.flat.Flat.{Flat}
 use Rattle.qasm_expand.specs.Flats.{each_from, Calls, nothing, called, body_flats, definition_flats, calls_of, applied, measured, reset_at, conditional, indices, statement_flats}
 use Rattle.qasm_expand.specs.Limits.{call_count, body_count, definition_count, counts_of, statement_count, gate_products, if_products, products, flat_count, product_count, is_past, passing_from, passing, line_of}
-use Rattle.qasm_expand.specs.Costs.{capped, cost, call_cost, op_operations, op_products, definition_cost, costs_of, statement_operations, statement_products, is_over}
+use Rattle.qasm_expand.specs.inside.Costs.{capped, cost, call_cost, op_operations, op_products, definition_cost, costs_of, statement_operations, statement_products, is_over}
 use Rattle.qasm_expand.proofs.Limits.{nat_lt-capped}
 
 -- sums -----------------------------------------------------------------------------------------------------------------------

@@ -7,7 +7,7 @@ use Rattle.qasm_expand.proofs.Steps.{capped_more}
 use Rattle.qasm_parse.specs.declared.tree.Statement.{Statement}
 use Rattle.qasm_expand.specs.declared.cost.Cost.{Cost}
 use Rattle.qasm_expand.specs.Limits.{passing_from, line_of}
-use Rattle.qasm_expand.specs.Costs.{capped, capped_cost, statement_operations, statement_products, statement_cost, is_over}
+use Rattle.qasm_expand.specs.inside.Costs.{capped, capped_cost, statement_operations, statement_products, statement_cost, is_over}
 
 -- the first statements are counted, and none of them passes a limit
 pub record Passing (known : List Cost) (ss : List Statement) (i : ℕ) (total : Cost) : Type 0 where

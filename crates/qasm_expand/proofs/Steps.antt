@@ -4,7 +4,7 @@ use Rattle.std.specs.List.{range_with_len, flat_map}
 use Rattle.std.proofs.lemmas.List.{take_more, flat_map_more, append-nil, map-append, map-id}
 use Rattle.std.proofs.lemmas.List.FromFn.{map-range_with_len_more}
 use Rattle.qasm_expand.specs.declared.cost.Cost.{Cost}
-use Rattle.qasm_expand.specs.Costs.{capped, capped_cost}
+use Rattle.qasm_expand.specs.inside.Costs.{capped, capped_cost}
 
 -- one more index
 pub range_more : (n : ℕ) → range_with_len 0 (n + 1) ≡ range_with_len 0 n ++ n ∷ []

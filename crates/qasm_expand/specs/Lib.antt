@@ -2,5 +2,5 @@ pub mod Flats
 pub mod Limits
 pub mod Sound
 pub mod Placed
-pub mod Costs
 pub mod Rows
+pub mod inside

@@ -3,7 +3,7 @@
 ghost use Rattle.std.specs.Prelude.{◌≡◌, ◌+◌, ◌||◌, nat_lt, IfOk, []};
 ghost use Rattle.qasm_parse.specs.Faults.{times};
 ghost use Rattle.qasm_expand.specs.Limits.{gate_products, if_products, line_of, passing_from};
-ghost use Rattle.qasm_expand.specs.Costs.{cost, capped_cost, multiple, call_cost, op_cost, definition_cost, costs_of, statement_cost, is_over};
+ghost use Rattle.qasm_expand.specs.inside.Costs.{cost, capped_cost, multiple, call_cost, op_cost, definition_cost, costs_of, statement_cost, is_over};
 
 use patch_base::{Memory, OPERATIONS, PRODUCTS};
 use qasm_parse::{Arg, BodyOp, Callee, Gate1, GateDef, Statement};

@@ -3,7 +3,8 @@ use Rattle.std.proofs.Common.{◌≡◌, ℕ, true, false, List, [], Err, refl, 
 use Rattle.qasm_grammar.specs.declared.follow.Refusal.TheVariants.{Syntax, Unsupported}
 use Rattle.qasm_grammar.specs.declared.terminal.Terminal.{Terminal}
 use Rattle.qasm_grammar.specs.declared.terminal.Terminal.TheVariants.{Qelib, Quoted}
-use Rattle.qasm_grammar.specs.Forms.{Form, refused, one, never, ◌⨾◌, ◌or◌, next, may_end, at_end, reads, fits, is_next}
+use Rattle.qasm_grammar.specs.Forms.{Form, refused, one, never, ◌⨾◌, ◌or◌, next, may_end, at_end, reads, fits}
+use Rattle.qasm_grammar.specs.inside.Forms.{is_next}
 use Rattle.qasm_grammar.proofs.Steps.{own, stop_at}
 use Rattle.qasm_grammar.proofs.Starts.{unless, reads_unless, stops_unless}
 

@@ -5,8 +5,9 @@ use Rattle.std.proofs.lemmas.List.{length-drop, get_or-drop}
 use Rattle.std.proofs.lemmas.Option.{slice_get-get_or}
 use Rattle.std.proofs.lemmas.Grind.{take_at_read, flat_map-append}
 use Rattle.qasm_grammar.specs.declared.terminal.Terminal.{Terminal}
-use Rattle.qasm_grammar.specs.Forms.{is_next}
-use Rattle.qasm_grammar.specs.Spelling.{Piece, Stands, fixed, Spells, fixed_text, listed}
+use Rattle.qasm_grammar.specs.inside.Forms.{is_next}
+use Rattle.qasm_grammar.specs.Spelling.{Piece, Stands, fixed, Spells, listed}
+use Rattle.qasm_grammar.specs.inside.Spelling.{fixed_text}
 use Rattle.qasm_grammar.specs.declared.terminal.Terminal.TheVariants.{Comma}
 
 pub spells_more : (xs ys : List Piece) (found : List Terminal) (at mid end : ℕ) → Spells xs found at mid → Spells ys found mid end → Spells (xs ++ ys) found at end

@@ -4,7 +4,8 @@ use Rattle.qasm_grammar.specs.declared.follow.Refusal.{Refusal}
 use Rattle.qasm_grammar.specs.declared.follow.Refusal.TheVariants.{Version, Parameters, Syntax, Unsupported}
 use Rattle.qasm_grammar.specs.declared.terminal.Terminal.{Terminal}
 use Rattle.qasm_grammar.specs.declared.terminal.Terminal.TheVariants.{Include, Qreg, Creg, Gate, Measure, Barrier, Reset, If, Cx, Name, Taken, Pauli, Semicolon, CloseBrace, Opaque, Callee, Word}
-use Rattle.qasm_grammar.specs.Forms.{Form, refused, done, one, must, never, both, either, many, ◌⨾◌, ◌or◌, next, may_end, at_end, reads, is_done, fits, is_next}
+use Rattle.qasm_grammar.specs.Forms.{Form, refused, done, one, must, never, both, either, many, ◌⨾◌, ◌or◌, next, may_end, at_end, reads, is_done, fits}
+use Rattle.qasm_grammar.specs.inside.Forms.{is_next}
 use Rattle.qasm_grammar.specs.Grammar.{arg, args, names, brackets, include, register, call_of, named_call, cx_call, measure, barrier, reset, names_after, body_call, body, gate, if_equal, statement}
 use Rattle.qasm_grammar.proofs.Steps.{own, alone, by_callee, then_assoc, one_other, same_next, halt, stop_at}
 

@@ -10,7 +10,8 @@ use Rattle.qasm_grammar.specs.declared.follow.Halt.{Halt}
 use Rattle.qasm_grammar.specs.declared.follow.Unread.{Unread}
 use Rattle.qasm_grammar.specs.declared.follow.Unread.TheVariants.{Memory, Halted}
 use Rattle.qasm_grammar.specs.contracts.terminal.Terminal.{the_type}
-use Rattle.qasm_grammar.specs.Forms.{Form, refused, done, one, must, never, both, either, many, optional, ◌⨾◌, ◌or◌, may_end, next, is_done, refusal, at_end, reads, same, fits, is_other_word, is_next, tokens_then, Stopped, GoesOn}
+use Rattle.qasm_grammar.specs.Forms.{Form, refused, done, one, must, never, both, either, many, optional, ◌⨾◌, ◌or◌, may_end, next, is_done, refusal, at_end, reads, same, fits, is_other_word, Stopped, GoesOn}
+use Rattle.qasm_grammar.specs.inside.Forms.{is_next, tokens_then}
 
 abbrev pub stop_at : ℕ → Refusal → Halt
 stop_at n kind = record { at = n; kind = kind }

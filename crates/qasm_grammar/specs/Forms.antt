@@ -106,26 +106,6 @@ unfoldable pub reads : Form → List Terminal → ℕ → Result ℕ Halt
 reads f [] n = if may_end f then Ok n else Err (record { at = n; kind = at_end f })
 reads f (t ∷ ts) n = if is_done f then Ok n else onward n (refusal (next f t)) (reads (next f t) ts (n + 1))
 
--- these tokens, and then the rest
-abbrev pub tokens_then : List Terminal → Form → Form
-tokens_then [] k = k
-tokens_then (s ∷ ss) k = both (one s) (tokens_then ss k)
-
-abbrev pub is_next : Terminal → List Terminal → Bool
-is_next s [] = false
-is_next s (t ∷ ts) = fits t s
-
--- none of these tokens goes on with the form
-abbrev pub NoneGoesOn : Form → List Terminal → Type 0
-NoneGoesOn k [] = Unit {0}
-NoneGoesOn k (t ∷ ts) = (next k t ≡ refused Syntax) × NoneGoesOn k ts
-
--- a form that has a next token, and none of these
-pub record Follows (k : Form) (others : List Terminal) : Type 0 where
-  pub lives : refusal k ≡ None
-  pub waits : is_done k ≡ false
-  pub apart : NoneGoesOn k others
-
 -- what was answered for the first part of a form is what its reading gives, with the rest read from there on
 abbrev pub Stopped : Unread → Result ℕ Halt → Type 0
 Stopped Memory given = Unit {0}
@@ -134,10 +114,6 @@ Stopped (Halted stop) given = given ≡ Err stop
 abbrev pub GoesOn : {X : Type 0} → (X → ℕ) → Result X Unread → Form → List Terminal → Result ℕ Halt → Type 0
 GoesOn end_of (Ok x) k found given = given ≡ reads k (drop (end_of x) found) (end_of x)
 GoesOn end_of (Err fault) k found given = Stopped fault given
-
--- a part of a statement was read as its form says, whatever follows it that doesn't begin with one of these tokens
-abbrev pub Reads : {X : Type 0} → (X → ℕ) → Form → List Terminal → List Terminal → ℕ → Result X Unread → Type 0
-Reads end_of f others found at result = (k : Form) → Follows k others → GoesOn end_of result k found (reads (f ⨾ k) (drop at found) at)
 
 -- the same for a part that ends with a token of its own, whatever follows it
 abbrev pub Closes : {X : Type 0} → (X → ℕ) → Form → List Terminal → ℕ → Result X Unread → Type 0

@@ -4,3 +4,4 @@ pub mod Spelling
 pub mod Meaning
 pub mod Laws
 pub mod Rows
+pub mod inside

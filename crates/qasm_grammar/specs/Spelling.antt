@@ -29,10 +29,6 @@ abbrev pub Spells : List Piece → List Terminal → ℕ → ℕ → Type 0
 Spells [] found at end = at ≡ end
 Spells (p ∷ ps) found at end = StandsAt p found at × Spells ps found (at + 1) end
 
-abbrev pub fixed_text : List Terminal → List Piece
-fixed_text [] = []
-fixed_text (t ∷ ts) = fixed t ∷ fixed_text ts
-
 abbrev pub arg_text : Argument → List Piece
 arg_text (arguments.Whole name) = given Name name ∷ []
 arg_text (arguments.Single name index) = given Name name ∷ fixed OpenBracket ∷ given Whole index ∷ fixed CloseBracket ∷ []

@@ -2,9 +2,11 @@
 
 ghost use Rattle.std.specs.Prelude.{◌≡◌, ◌≤◌, ◌+◌, length, drop, None, IfOk};
 ghost use Rattle.qasm_grammar.specs.declared.follow.Unread.TheVariants as faults;
-ghost use Rattle.qasm_grammar.specs.Forms.{Form, refusal, reads, GoesOn, Closes, tokens_then, is_next};
+ghost use Rattle.qasm_grammar.specs.Forms.{Form, refusal, reads, GoesOn, Closes};
+ghost use Rattle.qasm_grammar.specs.inside.Forms.{tokens_then, is_next};
 ghost use Rattle.qasm_grammar.specs.Grammar as grammar;
-ghost use Rattle.qasm_grammar.specs.Spelling.{Spells, fixed_text};
+ghost use Rattle.qasm_grammar.specs.Spelling.{Spells};
+ghost use Rattle.qasm_grammar.specs.inside.Spelling.{fixed_text};
 
 use crate::terminal::{Terminal, fits};
 use patch_base::Memory;

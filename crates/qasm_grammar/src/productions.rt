@@ -1,7 +1,8 @@
 //! The productions of the grammar, read from a place of the tokens on.
 
 ghost use Rattle.std.specs.Prelude.{◌≡◌, ◌≤◌, ◌<◌, ◌+◌, ◌∷◌, [], ◌++◌, length, IfOk};
-ghost use Rattle.qasm_grammar.specs.Forms.{Reads, Closes};
+ghost use Rattle.qasm_grammar.specs.Forms.{Closes};
+ghost use Rattle.qasm_grammar.specs.inside.Forms.{Reads};
 ghost use Rattle.qasm_grammar.specs.Grammar as grammar;
 ghost use Rattle.qasm_grammar.specs.Spelling.{Spells, fixed, arg_text, brackets_text, args_text, names_text, names_after_text, register_text, call_text, body_text, bodies_text, sentence_text};
 

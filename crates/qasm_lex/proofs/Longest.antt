@@ -13,7 +13,8 @@ use Rattle.qasm_lex.specs.declared.TokenKind.{TokenKind}
 use Rattle.qasm_lex.specs.declared.TokenKind.TheVariants as kinds
 use Rattle.qasm_lex.specs.declared.Head.TheVariants as heads
 use Rattle.qasm_lex.specs.Forms.{IsDigits, IsExponent, IsQuoted, IsReal, IsSign, IsSymbol, IsToken, IsWord, is_inner}
-use Rattle.qasm_lex.specs.Tokens.{IsWithin, digits, exponent_len, fraction_len, head_of, is_blank, is_digit, is_whole, is_word_byte, number_head, quoted_head, sign_len, starts_word, symbol_head}
+use Rattle.qasm_lex.specs.Tokens.{digits, exponent_len, fraction_len, head_of, is_blank, is_digit, is_whole, is_word_byte, number_head, quoted_head, sign_len, starts_word, symbol_head}
+use Rattle.qasm_lex.specs.inside.Tokens.{IsWithin}
 use Rattle.qasm_lex.proofs.Placed.{head_within}
 
 -- ---- prefixes

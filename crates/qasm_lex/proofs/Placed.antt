@@ -10,7 +10,8 @@ use Rattle.qasm_lex.specs.declared.fault.CircuitFault.{CircuitFault}
 use Rattle.qasm_lex.specs.declared.fault.CircuitFault.TheVariants as circuits
 use Rattle.qasm_lex.specs.declared.Head.{Head}
 use Rattle.qasm_lex.specs.declared.Head.TheVariants as heads
-use Rattle.qasm_lex.specs.Tokens.{IsWithin, IsPlaced, with_front, tokens_from, tokens_of, head_of, number_head, quoted_head, symbol_head, exponent_len, fraction_len, sign_len, digits, is_whole, is_digit, is_blank, is_symbol, starts_word, is_word_byte}
+use Rattle.qasm_lex.specs.Tokens.{IsPlaced, with_front, tokens_from, tokens_of, head_of, number_head, quoted_head, symbol_head, exponent_len, fraction_len, sign_len, digits, is_whole, is_digit, is_blank, is_symbol, starts_word, is_word_byte}
+use Rattle.qasm_lex.specs.inside.Tokens.{IsWithin}
 use Rattle.qasm_lex.proofs.Heads.{digit_begins, word_begins, some_begin}
 
 pick : (b : Bool) (x y : Head) (len : ℕ) → (b ≡ true → IsWithin x len) → (b ≡ false → IsWithin y len) → IsWithin (cond b x y) len

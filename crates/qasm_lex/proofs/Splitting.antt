@@ -15,7 +15,8 @@ use Rattle.qasm_lex.specs.declared.Head.TheVariants as heads
 use Rattle.qasm_lex.specs.Forms.{AreTokens, IsLongest, IsToken}
 use Rattle.qasm_lex.specs.Forms.AreTokens.{blank, comment, ended, feed, token}
 use Rattle.qasm_lex.specs.Laws.{FormsOfKinds, GapsAndTokens, TokensOrFault}
-use Rattle.qasm_lex.specs.Tokens.{IsWithin, head_of, tokens_from, tokens_of, with_front}
+use Rattle.qasm_lex.specs.Tokens.{head_of, tokens_from, tokens_of, with_front}
+use Rattle.qasm_lex.specs.inside.Tokens.{IsWithin}
 use Rattle.qasm_lex.proofs.Longest.{token_longest}
 use Rattle.qasm_lex.proofs.Placed.{after, head_within, none_at_end, none_at_zero, turn_is}
 use Rattle.qasm_lex.proofs.Shapes.{IsComment, Says, head_says}

@@ -88,13 +88,6 @@ head_of bs =
     else if b == 34 then quoted_head bs
     else symbol_head bs
 
--- a head has a byte at least, and no more than there are
-abbrev pub IsWithin : Head → ℕ → Type 0
-IsWithin heads.Feed len = 0 < len
-IsWithin (heads.Blank n) len = (0 < n) × (n ≤ len)
-IsWithin (heads.Token kind n) len = (0 < n) × (n ≤ len)
-IsWithin heads.Bad len = Unit {0}
-
 -- tokens before those of the rest, where the rest has no fault
 abbrev pub with_front : List Token → Result (List Token) CircuitFault → Result (List Token) CircuitFault
 with_front ts (Ok us) = Ok (ts ++ us)

@@ -3,7 +3,8 @@
 
 ghost use Rattle.std.specs.Prelude.{◌≡◌, ◌<◌, ◌≤◌, length, take, drop, slice_index, true, not, ◌==◌, ◌||◌};
 ghost use Rattle.std.specs.List.{prefix_len};
-ghost use Rattle.qasm_lex.specs.Tokens.{Gives, tokens_of, head_of, number_head, quoted_head, symbol_head, exponent_len, fraction_len, sign_len, digits, is_whole, IsWithin, is_digit, is_symbol, is_blank, starts_word, is_word_byte};
+ghost use Rattle.qasm_lex.specs.Tokens.{Gives, tokens_of, head_of, number_head, quoted_head, symbol_head, exponent_len, fraction_len, sign_len, digits, is_whole, is_digit, is_symbol, is_blank, starts_word, is_word_byte};
+ghost use Rattle.qasm_lex.specs.inside.Tokens.{IsWithin};
 
 mod fault;
 mod law;

@@ -10,7 +10,7 @@ use Rattle.qasm_parse.specs.declared.stop.Fault.TheVariants.{Memory, Stopping}
 use Rattle.qasm_lex.specs.declared.fault.FaultKind.TheVariants.{Unknown}
 use Rattle.qasm_parse.specs.declared.known.Called.{Called}
 use Rattle.qasm_parse.specs.Faults.{broken, first_fault, named_faults}
-use Rattle.qasm_parse.specs.Meets.{Meets, Finds, IsOnly}
+use Rattle.qasm_parse.specs.inside.Meets.{Meets, Finds, IsOnly}
 use Rattle.qasm_parse.proofs.First.{first_flat, first_front, first_behind, first_here, first_next}
 
 abbrev pub stop_at : FaultKind → ℕ → Stop

@@ -14,12 +14,14 @@ use Rattle.qasm_grammar.specs.declared.follow.Halt.{Halt}
 use Rattle.qasm_grammar.specs.declared.follow.Unread.{Unread}
 use Rattle.qasm_grammar.specs.declared.follow.Unread.TheVariants as unreads
 use Rattle.qasm_parse.specs.Lexed.{Lexed}
-use Rattle.qasm_parse.specs.Refused.{stop_of, told, fault_of}
+use Rattle.qasm_parse.specs.Refused.{stop_of, told}
+use Rattle.qasm_parse.specs.inside.Refused.{fault_of}
 use Rattle.qasm_parse.specs.Known.{nothing_known}
 use Rattle.qasm_parse.specs.Faults.{faults}
-use Rattle.qasm_parse.specs.Meets.{Meets}
+use Rattle.qasm_parse.specs.inside.Meets.{Meets}
 use Rattle.qasm_parse.specs.Behind.{behind}
-use Rattle.qasm_parse.specs.Pass.{terminals, unless, Continues, ends, stops, breaks, goes_on, Behind, Reading, ReadsAll}
+use Rattle.qasm_parse.specs.Pass.{terminals, unless, Continues, ends, stops, breaks, goes_on, Behind, Reading}
+use Rattle.qasm_parse.specs.inside.Pass.{ReadsAll}
 
 pub reads_done : (ts : List Terminal) (n : ℕ) → reads done ts n ≡ Ok n
 unfolding reads may_end

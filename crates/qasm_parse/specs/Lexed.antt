@@ -1,8 +1,8 @@
 -- A text with its tokens, which have places from 0 on.
-use Rattle.std.specs.Prelude.{◌≡◌, ◌≤◌, length, ℕ, List, [], slice_get, slice_range, if◌then◌else◌, Some, None}
+use Rattle.std.specs.Prelude.{ℕ, List, [], slice_get, slice_range, if◌then◌else◌, Some, None}
 use Rattle.std.specs.Str.Parse.{digits_value}
 use Rattle.qasm_lex.specs.declared.Token.{Token}
-use Rattle.qasm_lex.specs.Tokens.{is_whole, IsPlaced}
+use Rattle.qasm_lex.specs.Tokens.{is_whole}
 use Rattle.qasm_parse.specs.Words.{line_at}
 
 pub record Lexed : Type 0 where
@@ -30,8 +30,3 @@ start_of x at = elim (slice_get x.tokens at) [ None ↦ 0 | Some t ↦ t.start ]
 
 abbrev pub end_of : Lexed → ℕ → ℕ
 end_of x at = elim (slice_get x.tokens at) [ None ↦ 0 | Some t ↦ t.end ]
-
--- the tokens stand in the text, which has at most 4 MiB
-pub record AllPlaced (text : List ℕ) (tokens : List Token) : Type 0 where
-  pub short : length text ≤ 4194304
-  pub placed : (k : ℕ) (t : Token) → slice_get tokens k ≡ Some t → IsPlaced text t

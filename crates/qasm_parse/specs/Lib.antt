@@ -6,12 +6,10 @@ pub mod Refused
 pub mod Words
 pub mod Lexed
 pub mod Gates
-pub mod Small
 pub mod Known
 pub mod Faults
-pub mod Meets
-pub mod Tried
 pub mod Behind
 pub mod Pass
 pub mod Laws
 pub mod Rows
+pub mod inside

@@ -5,8 +5,6 @@ use Rattle.qasm_lex.specs.declared.fault.CircuitFault.{CircuitFault}
 use Rattle.qasm_lex.specs.declared.fault.CircuitFault.TheVariants as circuits
 use Rattle.qasm_lex.specs.declared.fault.FaultKind.{FaultKind}
 use Rattle.qasm_parse.specs.declared.stop.Stop.{Stop}
-use Rattle.qasm_parse.specs.declared.stop.Fault.{Fault}
-use Rattle.qasm_parse.specs.declared.stop.Fault.TheVariants.{Memory, Stopping}
 use Rattle.qasm_grammar.specs.declared.spoken.Sentence.{Sentence}
 use Rattle.qasm_grammar.specs.declared.terminal.Terminal.{Terminal}
 use Rattle.qasm_parse.specs.declared.known.Known.{Known}
@@ -53,12 +51,6 @@ Behind x (Ok at) r = Continues x nothing_known at r
 -- what reading a text from its tokens gives
 abbrev pub Reading : Lexed → Result Known Stop → Type 0
 Reading x r = Behind x (told (reads one_version (terminals x false) 0)) r
-
--- what was answered is what reading gives, unless memory ran out
-abbrev pub ReadsAll : Lexed → Result Known Fault → Type 0
-ReadsAll x (Ok k) = Reading x (Ok k)
-ReadsAll x (Err Memory) = Unit {0}
-ReadsAll x (Err (Stopping stop)) = Reading x (Err stop)
 
 -- the tree of a text, or its fault with the line of the token, or of the end, at which it is refused
 pub record HasTree (text : List ℕ) (tokens : List Token) (tree : Tree) : Type 0 where

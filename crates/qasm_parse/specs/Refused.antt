@@ -3,13 +3,9 @@ use Rattle.std.specs.Prelude.{ℕ, Result, Ok, Err}
 use Rattle.qasm_grammar.specs.declared.follow.Refusal.{Refusal}
 use Rattle.qasm_grammar.specs.declared.follow.Refusal.TheVariants as refusals
 use Rattle.qasm_grammar.specs.declared.follow.Halt.{Halt}
-use Rattle.qasm_grammar.specs.declared.follow.Unread.{Unread}
-use Rattle.qasm_grammar.specs.declared.follow.Unread.TheVariants as unreads
 use Rattle.qasm_lex.specs.declared.fault.FaultKind.{FaultKind}
 use Rattle.qasm_lex.specs.declared.fault.FaultKind.TheVariants.{Version, Syntax, Parameters, Unsupported}
 use Rattle.qasm_parse.specs.declared.stop.Stop.{Stop}
-use Rattle.qasm_parse.specs.declared.stop.Fault.{Fault}
-use Rattle.qasm_parse.specs.declared.stop.Fault.TheVariants.{Memory, Stopping}
 
 abbrev pub kind_of : Refusal → FaultKind
 kind_of refusals.Version = Version
@@ -24,7 +20,3 @@ stop_of halt = record { at = halt.at; kind = kind_of halt.kind }
 abbrev pub told : Result ℕ Halt → Result ℕ Stop
 told (Ok end) = Ok end
 told (Err halt) = Err (stop_of halt)
-
-abbrev pub fault_of : Unread → Fault
-fault_of unreads.Memory = Memory
-fault_of (unreads.Halted halt) = Stopping (stop_of halt)

@@ -3,8 +3,8 @@
 ghost use Rattle.std.specs.Prelude.{◌≡◌, nat_le, nat_lt, ◌||◌, ◌<◌, ◌≤◌, max, length, IfOk};
 ghost use Rattle.qasm_parse.specs.Known.{gate_named};
 ghost use Rattle.qasm_parse.specs.Lexed.{word_at};
-ghost use Rattle.qasm_parse.specs.Meets.{Finds};
-ghost use Rattle.qasm_parse.specs.Tried.{TriesFormals, Numbers, TriesOp, TriesNamedOp, TriesBody, TriesBodies, TriesHead, IsNew, HasRoom, TriesGate};
+ghost use Rattle.qasm_parse.specs.inside.Meets.{Finds};
+ghost use Rattle.qasm_parse.specs.inside.Tried.{TriesFormals, Numbers, TriesOp, TriesNamedOp, TriesBody, TriesBodies, TriesHead, IsNew, HasRoom, TriesGate};
 
 use crate::gates::cx;
 use crate::known::{Called, Known, Meaning};

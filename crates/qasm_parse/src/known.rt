@@ -1,7 +1,7 @@
 //! What the statements so far make known.
 
 ghost use Rattle.std.specs.Prelude.{◌≡◌, ◌++◌, ◌∷◌, [], None, OnOk, IfSome, slice_get};
-ghost use Rattle.qasm_parse.specs.Small.{IsSmall, IsSmallSpan};
+ghost use Rattle.qasm_parse.specs.inside.Small.{IsSmall, IsSmallSpan};
 ghost use Rattle.qasm_parse.specs.Known.{nothing_known, place_of, meaning_of, quantum_named, classical_named, gate_named, is_own_gate, is_declared, bars_include, with_name};
 
 use crate::gates::{built_in, is_barred};
@@ -48,7 +48,7 @@ impl Model for MeaningList {
 
     ghost view = { λ s. s.items.items };
 
-    ghost use Rattle.qasm_parse.specs.Small.{IsSmall};
+    ghost use Rattle.qasm_parse.specs.inside.Small.{IsSmall};
 
     ghost invariant = { λ s. All IsSmall s.items.items };
 }

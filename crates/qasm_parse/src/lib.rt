@@ -7,7 +7,8 @@
 
 ghost use Rattle.std.specs.Prelude.{◌≡◌, Ok, IfOk};
 ghost use Rattle.qasm_lex.specs.Tokens.{tokens_of};
-ghost use Rattle.qasm_parse.specs.Pass.{Parses, ReadsAll, terminals};
+ghost use Rattle.qasm_parse.specs.Pass.{Parses, terminals};
+ghost use Rattle.qasm_parse.specs.inside.Pass.{ReadsAll};
 
 mod definitions;
 mod gates;

@@ -2,9 +2,9 @@
 
 ghost use Rattle.std.specs.Prelude.{◌≡◌, ◌-◌, ◌==◌, ◌&&◌, [], Some, None, IfOk, nat_eq, nat_lt, nat_le};
 ghost use Rattle.std.specs.List.{list_any, list_all};
-ghost use Rattle.qasm_parse.specs.Small.{IsSmallSpan};
+ghost use Rattle.qasm_parse.specs.inside.Small.{IsSmallSpan};
 ghost use Rattle.qasm_parse.specs.Faults.{name_place, past_end, meant, times, has_size, meets, any_pair};
-ghost use Rattle.qasm_parse.specs.Tried.{Resolves, TriesCall, sooner, Adds};
+ghost use Rattle.qasm_parse.specs.inside.Tried.{Resolves, TriesCall, sooner, Adds};
 
 use crate::known::{Called, Known, Span};
 use crate::source::Source;

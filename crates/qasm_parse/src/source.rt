@@ -2,7 +2,8 @@
 
 ghost use Rattle.std.specs.Prelude.{◌≡◌, map, IfOk};
 ghost use Rattle.qasm_parse.specs.Words.{terminal_of};
-ghost use Rattle.qasm_parse.specs.Lexed.{AllPlaced, word_at, number_at, line_of, start_of, end_of};
+ghost use Rattle.qasm_parse.specs.Lexed.{word_at, number_at, line_of, start_of, end_of};
+ghost use Rattle.qasm_parse.specs.inside.Lexed.{AllPlaced};
 ghost use Rattle.qasm_parse.specs.Pass.{terminals};
 
 use crate::words::make_terminal;
@@ -20,7 +21,8 @@ pub struct Source<'t> {
 }
 
 impl<'t> Model for Source<'t> {
-    ghost use Rattle.qasm_parse.specs.Lexed.{Lexed, AllPlaced};
+    ghost use Rattle.qasm_parse.specs.Lexed.{Lexed};
+    ghost use Rattle.qasm_parse.specs.inside.Lexed.{AllPlaced};
 
     ghost Value = { Lexed };
 

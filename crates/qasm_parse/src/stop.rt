@@ -2,7 +2,8 @@
 
 ghost use Rattle.std.specs.Prelude.{◌≡◌};
 ghost use Rattle.qasm_parse.specs.declared.stop.Fault.TheVariants as faults;
-ghost use Rattle.qasm_parse.specs.Refused.{kind_of, fault_of};
+ghost use Rattle.qasm_parse.specs.Refused.{kind_of};
+ghost use Rattle.qasm_parse.specs.inside.Refused.{fault_of};
 
 use patch_base::Memory;
 use qasm_grammar::{Refusal, Unread};

@@ -1,9 +1,9 @@
 //! Trying the names of a statement.
 
 ghost use Rattle.std.specs.Prelude.{◌≡◌, ◌≤◌, ◌+◌, ◌||◌, nat_le, nat_lt, true, false, IfOk};
-ghost use Rattle.qasm_parse.specs.Meets.{Meets, IsOnly};
+ghost use Rattle.qasm_parse.specs.inside.Meets.{Meets, IsOnly};
 ghost use Rattle.qasm_parse.specs.Faults.{include_faults, fit_together};
-ghost use Rattle.qasm_parse.specs.Tried.{Tries, TriesRegister, IsNew};
+ghost use Rattle.qasm_parse.specs.inside.Tried.{Tries, TriesRegister, IsNew};
 ghost use Rattle.qasm_parse.specs.Behind.{declared_at, with_statement, first_of};
 
 use crate::definitions::{define, find_gate};

@@ -7,7 +7,7 @@ use Rattle.std.proofs.lemmas.List.Elements.{All-cons, All-head, All-contains}
 use Rattle.std.proofs.lemmas.List.Sorted.{IsPermutation-trans}
 use Rattle.pauli_product.specs.declared.Letter.{Letter}
 use Rattle.pauli_product.specs.declared.Letter.TheVariants as letter
-use Rattle.pauli_product.specs.Signed.{Signed}
+use Rattle.pauli_product.specs.Signed.{Signed, HasLetter}
 use Rattle.patch_layout.specs.declared.look.Look.{Look}
 use Rattle.patch_layout.specs.declared.plan.Plan.{Plan}
 use Rattle.patch_layout.specs.declared.layout.Side.{Side}
@@ -17,13 +17,13 @@ use Rattle.patch_layout.specs.Region.{Fit, Touches, wanted_sides, sides_of, side
 use Rattle.patch_layout.specs.Joined.{Grown}
 use Rattle.patch_layout.specs.Certificate.{Certified}
 use Rattle.patch_layout.specs.Case.{case_of}
-use Rattle.region_plan.specs.Free.{Free, HasLetter, HasState, LacksState, MayTake, FitsFree, Serves, IsOffered}
-use Rattle.region_plan.specs.Growing.{CutOff}
-use Rattle.region_plan.specs.Tree.{cells_in}
-use Rattle.region_plan.specs.Ways.{Sprung, Served}
+use Rattle.region_plan.specs.Free.{Free, HasState, LacksState, MayTake, FitsFree, Serves, IsOffered}
+use Rattle.region_plan.specs.inside.Growing.{CutOff}
+use Rattle.region_plan.specs.inside.Tree.{cells_in}
+use Rattle.region_plan.specs.inside.Ways.{Sprung, Served}
 use Rattle.region_plan.specs.Answer.{GrownFrom, GrownFromLeast, IsRegion}
-use Rattle.region_plan.specs.Finish.{Planning, Finished, Through, Found}
-use Rattle.region_plan.specs.Ports.{NoneOn, BestWay}
+use Rattle.region_plan.specs.inside.Finish.{Planning, Finished, Through, Found}
+use Rattle.region_plan.specs.inside.Ports.{NoneOn, BestWay}
 use Rattle.region_plan.specs.declared.growth.Region.{Region}
 use Rattle.region_plan.specs.declared.ports.Way.{Way}
 use Rattle.patch_layout.proofs.Laws.{law_certified_fits}

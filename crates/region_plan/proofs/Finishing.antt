@@ -16,18 +16,18 @@ use Rattle.patch_layout.specs.Region.{Touches, Fit, wanted_sides}
 use Rattle.patch_layout.specs.Spread.{InQueue}
 use Rattle.patch_layout.specs.Case.{Ascending, case}
 use Rattle.patch_layout.specs.Certificate.{Certified, ParentFits, TouchFits, Each}
-use Rattle.patch_layout.specs.Tree.{Tree, Named}
+use Rattle.patch_layout.specs.Tree.{Tree, ParentsNamed}
 use Rattle.patch_layout.proofs.Places.{same_entry, get_below, get_cases, get_set_here, get_set_other, Contains_from_get, get_from_Contains, get_map, get_mapped, get_added, get_kept}
 use Rattle.patch_layout.proofs.Looking.{one_place}
 use Rattle.patch_layout.proofs.Trees.{named_at}
 use Rattle.patch_layout.proofs.Laws.{law_neighbours}
 use Rattle.patch_layout.proofs.Asked.{side_count_is}
 use Rattle.patch_layout.proofs.Certifying.{fit_patched, fit_port, cells_fit}
-use Rattle.region_plan.specs.Tree.{cells_in, Rooted, TouchedTo}
+use Rattle.region_plan.specs.inside.Tree.{cells_in, Rooted, TouchedTo}
 use Rattle.region_plan.specs.Free.{Free}
 use Rattle.region_plan.proofs.Grafting.{free_within}
-use Rattle.region_plan.specs.Ways.{Sprung}
-use Rattle.region_plan.specs.Finish.{PlacesIn, RenumberedTo, Renumbered, Finished}
+use Rattle.region_plan.specs.inside.Ways.{Sprung}
+use Rattle.region_plan.specs.inside.Finish.{PlacesIn, RenumberedTo, Renumbered, Finished}
 use Rattle.region_plan.proofs.Least.{Distinct}
 use Rattle.region_plan.proofs.Regions.{Region, region_one, grown_region, region_permuted}
 use Rattle.region_plan.proofs.Shuffled.{permuted_distinct}
@@ -69,7 +69,7 @@ in_tree tree cells x perm has =
     let (r, is', cell) = get_map (λ r. r.cell) tree k x is in (k, r, is', cell)
 
 -- the entry of a cell of the sorted list, and its parent
-parent_at : (tree : List Reached) (cells places : List ℕ) (parents : List Parent) → IsPermutation (cells_in tree) cells → Tree cells tree → PlacesIn cells places → Named tree places parents (length tree)
+parent_at : (tree : List Reached) (cells places : List ℕ) (parents : List Parent) → IsPermutation (cells_in tree) cells → Tree cells tree → PlacesIn cells places → ParentsNamed tree places parents (length tree)
     → (i c : ℕ) → slice_get cells i ≡ Some c
     → (k : ℕ) × (r : Reached) × (b : Reached) × (j : ℕ) × (slice_get tree k ≡ Some r) × (r.cell ≡ c) × (slice_get tree r.from ≡ Some b) × (slice_get cells j ≡ Some b.cell) × (slice_get parents i ≡ Some (record { index = j; depth = r.steps }))
 parent_at tree cells places parents perm t at' named i c is =
@@ -85,7 +85,7 @@ only c x has =
 
 -- each parent fits
 pub parents_fit : (g : Grid) (Free : ℕ → Type 0) (first : ℕ) (tree : List Reached) (cells places : List ℕ) (parents : List Parent) → ((x : ℕ) → Free x → x < length g.sites)
-    → Rooted g Free first tree → Free first → Distinct cells → IsPermutation (cells_in tree) cells → Tree cells tree → PlacesIn cells places → Named tree places parents (length tree)
+    → Rooted g Free first tree → Free first → Distinct cells → IsPermutation (cells_in tree) cells → Tree cells tree → PlacesIn cells places → ParentsNamed tree places parents (length tree)
     → Each (ParentFits g cells parents) (length cells)
 parents_fit g Free first tree cells places parents within rooted free distinct perm t at' named i in' =
     let (c, ec) = get_below cells i in' in
@@ -159,7 +159,7 @@ touches_fit g sides tree cells places touched touches t at' as-many touch (len, 
 -- the whole certificate
 pub sprung_certified : (g : Grid) (Free : ℕ → Type 0) (axis : Signed) (port : Option ℕ) (first : ℕ) (tree : List Reached) (touched cells places : List ℕ) (parents : List Parent) (touches : List ℕ)
     → ((x : ℕ) → Free x → IsAncilla g x) → ((x : ℕ) → Free x → x < length g.sites) → Sprung g Free (wanted_sides axis port) first tree touched
-    → IsPermutation (cells_in tree) cells → (Distinct cells → Ascending cells) → PlacesIn cells places → length parents ≡ length cells → Named tree places parents (length tree)
+    → IsPermutation (cells_in tree) cells → (Distinct cells → Ascending cells) → PlacesIn cells places → length parents ≡ length cells → ParentsNamed tree places parents (length tree)
     → Renumbered tree places touched touches → Certified (case g (is_some port) axis port cells parents touches)
 sprung_certified g Free axis port first tree touched cells places parents touches anc within s perm up at' sizes named renumbered =
     let (fit, free) = sprung_fits g Free axis port first tree touched cells anc s perm in
@@ -243,7 +243,7 @@ tree_within g held axis port first tree touched size s size-is =
 -- the plan of the sorted cells
 pub finished : (g : Grid) (look : Look) (port : Option ℕ) (first : ℕ) (tree : List Reached) (touched sorted places : List ℕ) (parents : List Parent) (touches : List ℕ) (p : Plan)
     → Sprung g (Free g look.held) (wanted_sides look.axis port) first tree touched → IsPermutation (cells_in tree) sorted → (Distinct sorted → Ascending sorted) → PlacesIn sorted places
-    → length parents ≡ length sorted → Named tree places parents (length tree) → Renumbered tree places touched touches
+    → length parents ≡ length sorted → ParentsNamed tree places parents (length tree) → Renumbered tree places touched touches
     → p.number ≡ look.product → p.axis ≡ look.axis → p.port ≡ port → p.cells ≡ sorted → p.parents ≡ parents → p.touches ≡ touches → Finished g look port (cells_in tree) p
 finished g look port first tree touched sorted places parents touches p s perm up at' sizes named renumbered ne ae oe ce pe te =
     let (fit, free) = sprung_fits g (Free g look.held) look.axis port first tree touched sorted (λ x f. f.0) s perm in

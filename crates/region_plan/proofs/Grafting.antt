@@ -8,18 +8,18 @@ use Rattle.patch_layout.specs.declared.layout.Side.{Side}
 use Rattle.patch_layout.specs.declared.layout.Site.TheVariants as site
 use Rattle.patch_layout.specs.Grid.{Grid, Adjacent, Leads}
 use Rattle.patch_layout.specs.Region.{OnSide}
-use Rattle.patch_layout.specs.Spread.{InQueue, NoneBelow, OneAt}
+use Rattle.patch_layout.specs.Spread.{InQueue, NoneBefore, OneAt}
 use Rattle.patch_layout.specs.Joined.{Joining}
 use Rattle.patch_layout.proofs.Places.{same_entry, get_cases, get_added, get_from_Contains, Contains_from_get, get_map, get_mapped}
 use Rattle.patch_layout.proofs.Laws.{law_neighbours}
 use Rattle.patch_layout.proofs.Fits.{leads_on}
 use Rattle.region_plan.specs.Free.{Free}
-use Rattle.region_plan.specs.Walk.{FreeOnes, Sought, MetAt, Meets, Reaches}
-use Rattle.region_plan.specs.Kept.{KeptFrom, HasWalk, Suits}
-use Rattle.region_plan.specs.Follow.{Found, Leading, Follows}
+use Rattle.region_plan.specs.inside.Walk.{FreeOnes, Sought, MetAt, Meets, Reaches}
+use Rattle.region_plan.specs.inside.Kept.{KeptFrom, HasWalk, Suits}
+use Rattle.region_plan.specs.inside.Follow.{Found, Leading, Follows}
 use Rattle.region_plan.specs.declared.kept.Walk.{Walk}
 use Rattle.region_plan.specs.declared.walk.Met.{Met}
-use Rattle.region_plan.specs.Tree.{Growth, cells_in, Rooted, Grafted, Pushed}
+use Rattle.region_plan.specs.inside.Tree.{Growth, cells_in, Rooted, Grafted, Pushed}
 use Rattle.region_plan.proofs.Least.{leads_to}
 use Rattle.region_plan.proofs.Rooting.{cells_more, rooted_more}
 use Rattle.region_plan.proofs.Reaching.{reaches_of, reaches_before, least_reached, none_reached}
@@ -99,7 +99,7 @@ entry_free g held pair starts queue head ones s k r is = elim (s.came k r is) [
 
 -- the entry that comes before is not in the region yet
 pub grafting_new : (g : Grid) (held : List (Option ℕ)) (starts : List ℕ) (tree queue : List Reached) (head : ℕ) (now : List Reached) (at' y : Reached) (place : ℕ)
-    → Reaches g (Free g held) starts queue head → NoneBelow (InQueue tree) queue head → Grafting g held tree queue head now at' place
+    → Reaches g (Free g held) starts queue head → NoneBefore (InQueue tree) queue head → Grafting g held tree queue head now at' place
     → slice_get queue at'.from ≡ Some y → 0 < at'.steps → InQueue now y.cell → ⊥
 grafting_new g held starts tree queue head now at' y place s none t is more (k, r, at-k, cell) =
     elim (s.came t.index at' t.is) [
@@ -172,7 +172,7 @@ grafting_more g held pair starts tree queue head now after at' y place next ones
 
 -- at the side the region was joined by the least number of cells
 pub grafted : (g : Grid) (held pair : List (Option ℕ)) (side : Side) (starts : List ℕ) (tree queue : List Reached) (head : ℕ) (now : List Reached) (at' : Reached) (place : ℕ)
-    → FreeOnes g held pair starts → Reaches g (Free g held) starts queue head → NoneBelow (InQueue tree) queue head → OneAt (InQueue tree) queue head
+    → FreeOnes g held pair starts → Reaches g (Free g held) starts queue head → NoneBefore (InQueue tree) queue head → OneAt (InQueue tree) queue head
     → ((c : ℕ) → Contains pair (Some c) ↔ OnSide g side c) → All (Free g held) (cells_in tree)
     → Grafting g held tree queue head now at' place → at'.steps ≡ 0 → Grafted g (Free g held) (OnSide g side) tree now (Some place)
 grafted g held pair side starts tree queue head now at' place ones s none (r, r-is, inside) on free t zero-steps =
@@ -235,7 +235,7 @@ head_within g held side region queue met (f, (r, x, is, x-is, cell), free, size)
 
 -- no walk came to the region
 unled : (g : Grid) (held pair : List (Option ℕ)) (side : Side) (tree queue : List Reached) (starts : List ℕ) → FreeOnes g held pair starts → Reaches g (Free g held) starts queue (length queue)
-    → NoneBelow (InQueue tree) queue (length queue) → ((c : ℕ) → Contains pair (Some c) ↔ OnSide g side c) → All (Free g held) (cells_in tree)
+    → NoneBefore (InQueue tree) queue (length queue) → ((c : ℕ) → Contains pair (Some c) ↔ OnSide g side c) → All (Free g held) (cells_in tree)
     → (others : List ℕ) → Joining g (Free g held) (OnSide g side) (cells_in tree) others → ⊥
 unled g held pair side tree queue starts ones s none on free others j =
     let (es, len, back) = joining_back g held pair side tree starts others ones on free j in

@@ -8,8 +8,8 @@ use Rattle.patch_layout.specs.declared.layout.Site.TheVariants as site
 use Rattle.patch_layout.specs.Grid.{Grid, IsAncilla, Adjacent, neighbours}
 use Rattle.patch_layout.proofs.Places.{get_from_Contains, get_cases, get_kept, get_added, get_set_cases, same_entry}
 use Rattle.region_plan.specs.Free.{Free, IsUnheld}
-use Rattle.region_plan.specs.Walk.{Reaches, Sought}
-use Rattle.region_plan.specs.Kept.{Clear, AncillaTo, Like, KeptFrom, Suits, AllKept, HasWalk, used}
+use Rattle.region_plan.specs.inside.Walk.{Reaches, Sought}
+use Rattle.region_plan.specs.inside.Kept.{Clear, AncillaTo, Like, KeptFrom, Suits, AllKept, HasWalk, used}
 use Rattle.region_plan.specs.declared.kept.Walk.{Walk}
 use Rattle.region_plan.proofs.Reaching.{reaches_of}
 

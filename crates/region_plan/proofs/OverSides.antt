@@ -11,8 +11,8 @@ use Rattle.patch_layout.specs.Grid.{Grid}
 use Rattle.patch_layout.specs.Region.{OnSide}
 use Rattle.patch_layout.specs.Joined.{Grown}
 use Rattle.patch_layout.proofs.Places.{get_kept, get_added}
-use Rattle.region_plan.specs.Tree.{cells_in, Rooted, Grafted, TouchedTo}
-use Rattle.region_plan.specs.Ways.{SprungFrom}
+use Rattle.region_plan.specs.inside.Tree.{cells_in, Rooted, Grafted, TouchedTo}
+use Rattle.region_plan.specs.inside.Ways.{SprungFrom}
 use Rattle.region_plan.proofs.Least.{Distinct, adds_distinct, leads_all}
 use Rattle.region_plan.proofs.Rooting.{cells_more}
 

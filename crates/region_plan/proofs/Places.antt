@@ -6,7 +6,7 @@ use Rattle.std.proofs.lemmas.List.{length-map}
 use Rattle.patch_layout.specs.declared.walk.Reached.{Reached}
 use Rattle.patch_layout.specs.Spread.{starting, InQueue}
 use Rattle.patch_layout.proofs.Places.{get_cases, get_kept, get_added, get_set_cases, get_set_here, get_set_other, same_entry, get_map}
-use Rattle.region_plan.specs.Tree.{Placing, cells_in, PlaceOf}
+use Rattle.region_plan.specs.inside.Tree.{Placing, cells_in, PlaceOf}
 use Rattle.region_plan.proofs.Least.{Distinct, below_few}
 
 none_in : (n c k : ℕ) → slice_get (replicate {A = Option ℕ} n None) c ≡ Some (Some k) → ⊥

@@ -15,10 +15,10 @@ use Rattle.patch_layout.specs.Spread.{starting}
 use Rattle.patch_layout.specs.Joined.{Joining, Adds, Grown}
 use Rattle.patch_layout.proofs.Places.{get_kept, get_added, get_cases, get_from_Contains, same_entry}
 use Rattle.region_plan.specs.Free.{Free, IsOffered}
-use Rattle.region_plan.specs.Growing.{CutOff}
-use Rattle.region_plan.specs.Tree.{cells_in, Rooted, Grafted}
-use Rattle.region_plan.specs.Ways.{Sprung, At, HasTables}
-use Rattle.region_plan.specs.Ports.{Unreached, GoesOn, PortTried, NoneReached, PortJoined, CutFrom, NoneFrom, WayAt, BestWay}
+use Rattle.region_plan.specs.inside.Growing.{CutOff}
+use Rattle.region_plan.specs.inside.Tree.{cells_in, Rooted, Grafted}
+use Rattle.region_plan.specs.inside.Ways.{Sprung, At, HasTables}
+use Rattle.region_plan.specs.inside.Ports.{Unreached, GoesOn, PortTried, NoneReached, PortJoined, CutFromPort, NoneFrom, WayAt, BestWay}
 use Rattle.region_plan.specs.declared.growth.Region.{Region}
 use Rattle.region_plan.specs.declared.ports.Way.{Way}
 use Rattle.region_plan.proofs.Least.{Distinct, adds_distinct}
@@ -239,7 +239,7 @@ best_near g look s pair a b n w near lesser t near-is way none-is far =
     let (first, a-is, lt, offered, none, sprung) = subst N near-is way in (
       offered,
       λ f less off c free on-c. elim (one_of g s pair a b t c on-c) [
-        | inl at-a ↦ let C : ℕ → Type 0 = λ x. CutFrom g look f x in subst C (same_cell a first c a-is at-a) (none f less off)
+        | inl at-a ↦ let C : ℕ → Type 0 = λ x. CutFromPort g look f x in subst C (same_cell a first c a-is at-a) (none f less off)
         | inr at-b ↦ other c at-b free f less off
       ],
       (
@@ -264,7 +264,7 @@ best_far g look s pair a b n w t others (first, b-is, lt, offered, none, sprung)
   offered,
   λ f less off c free on-c. elim (one_of g s pair a b t c on-c) [
     | inl at-a ↦ others c at-a free f (omega arith) off
-    | inr at-b ↦ let C : ℕ → Type 0 = λ x. CutFrom g look f x in subst C (same_cell b first c b-is at-b) (none f less off)
+    | inr at-b ↦ let C : ℕ → Type 0 = λ x. CutFromPort g look f x in subst C (same_cell b first c b-is at-b) (none f less off)
   ],
   (
     first,

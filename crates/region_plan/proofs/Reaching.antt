@@ -4,9 +4,9 @@ use Rattle.std.proofs.lemmas.Option.{slice_get_within}
 use Rattle.std.proofs.lemmas.Bool.{cases_lt}
 use Rattle.patch_layout.specs.declared.walk.Reached.{Reached}
 use Rattle.patch_layout.specs.Grid.{Grid, Leads}
-use Rattle.patch_layout.specs.Spread.{Spread, NoneBelow}
+use Rattle.patch_layout.specs.Spread.{Spread, NoneBefore}
 use Rattle.patch_layout.specs.Joined.{Joining}
-use Rattle.region_plan.specs.Walk.{Reaches}
+use Rattle.region_plan.specs.inside.Walk.{Reaches}
 
 pub reaches_of : (g : Grid) (Free : ℕ → Type 0) (starts : List ℕ) (queue : List Reached) (head : ℕ) (seen : List Bool) → Spread g Free starts queue head seen → Reaches g Free starts queue head
 reaches_of g Free starts queue head seen s = record { came = s.came; start = s.start; within = s.within; ordered = s.ordered; once = s.once; done = s.done }
@@ -17,7 +17,7 @@ reaches_before g Free starts queue head n s low =
     record { came = s.came; start = s.start; within = s.within; ordered = s.ordered; once = s.once; done = λ k r lt. s.done k r (omega arith) }
 
 -- no walk from the queue takes fewer steps than the head is away
-least : (g : Grid) (Free T : ℕ → Type 0) (starts : List ℕ) (queue : List Reached) (head : ℕ) (h : Reached) → Reaches g Free starts queue head → slice_get queue head ≡ Some h → NoneBelow T queue head
+least : (g : Grid) (Free T : ℕ → Type 0) (starts : List ℕ) (queue : List Reached) (head : ℕ) (h : Reached) → Reaches g Free starts queue head → slice_get queue head ≡ Some h → NoneBefore T queue head
     → (cs : List ℕ) (k : ℕ) (r : Reached) → slice_get queue k ≡ Some r → Leads g Free T r.cell cs → h.steps ≤ r.steps + length cs
 least g Free T starts queue head h s at' none [] k r is t =
     elim (cases_lt k head) [
@@ -35,7 +35,7 @@ least g Free T starts queue head h s at' none (c ∷ cs) k r is (adj, free, rest
     ]
 
 -- the walk to the head is the least one
-pub least_reached : (g : Grid) (Free T : ℕ → Type 0) (starts : List ℕ) (queue : List Reached) (head : ℕ) (h : Reached) → Reaches g Free starts queue head → slice_get queue head ≡ Some h → NoneBelow T queue head
+pub least_reached : (g : Grid) (Free T : ℕ → Type 0) (starts : List ℕ) (queue : List Reached) (head : ℕ) (h : Reached) → Reaches g Free starts queue head → slice_get queue head ≡ Some h → NoneBefore T queue head
     → (others : List ℕ) → Joining g Free T starts others → h.steps ≤ length others
 least_reached g Free T starts queue head h s at' none others (from, has, leads) =
     let (k, r, is, cell, zero-steps) = s.start from has in
@@ -44,7 +44,7 @@ least_reached g Free T starts queue head h s at' none others (from, has, leads) 
     omega arith
 
 -- when the walk has come to its end, no walk leads anywhere else
-nowhere : (g : Grid) (Free T : ℕ → Type 0) (starts : List ℕ) (queue : List Reached) → Reaches g Free starts queue (length queue) → NoneBelow T queue (length queue)
+nowhere : (g : Grid) (Free T : ℕ → Type 0) (starts : List ℕ) (queue : List Reached) → Reaches g Free starts queue (length queue) → NoneBefore T queue (length queue)
     → (cs : List ℕ) (k : ℕ) (r : Reached) → slice_get queue k ≡ Some r → Leads g Free T r.cell cs → ⊥
 nowhere g Free T starts queue s none [] k r is t = none k r (slice_get_within queue k r is) is t
 nowhere g Free T starts queue s none (c ∷ cs) k r is (adj, free, rest) =
@@ -52,7 +52,7 @@ nowhere g Free T starts queue s none (c ∷ cs) k r is (adj, free, rest) =
     let P : ℕ → Type 0 = λ y. Leads g Free T y cs in
     nowhere g Free T starts queue s none cs j x is' (subst P (sym cell) rest)
 
-pub none_reached : (g : Grid) (Free T : ℕ → Type 0) (starts : List ℕ) (queue : List Reached) → Reaches g Free starts queue (length queue) → NoneBelow T queue (length queue)
+pub none_reached : (g : Grid) (Free T : ℕ → Type 0) (starts : List ℕ) (queue : List Reached) → Reaches g Free starts queue (length queue) → NoneBefore T queue (length queue)
     → (others : List ℕ) → Joining g Free T starts others → ⊥
 none_reached g Free T starts queue s none others (from, has, leads) =
     let (k, r, is, cell, zero-steps) = s.start from has in

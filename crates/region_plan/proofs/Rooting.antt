@@ -6,7 +6,7 @@ use Rattle.patch_layout.specs.declared.walk.Reached.{Reached}
 use Rattle.patch_layout.specs.Grid.{Grid, Adjacent}
 use Rattle.patch_layout.specs.Spread.{Came}
 use Rattle.patch_layout.proofs.Places.{get_cases, get_kept}
-use Rattle.region_plan.specs.Tree.{cells_in, Rooted}
+use Rattle.region_plan.specs.inside.Tree.{cells_in, Rooted}
 
 pub cells_more : (tree added : List Reached) → cells_in (tree ++ added) ≡ cells_in tree ++ cells_in added
 cells_more tree added = map-append (λ r. r.cell) tree added

@@ -7,13 +7,13 @@ use Rattle.std.proofs.lemmas.List.Sums.{count_by-le-length}
 use Rattle.patch_layout.specs.declared.walk.Reached.{Reached}
 use Rattle.patch_layout.specs.declared.layout.Site.TheVariants as site
 use Rattle.patch_layout.specs.Grid.{Grid, Adjacent, neighbours}
-use Rattle.patch_layout.specs.Spread.{Marked, InQueue, Spread, NoneBelow, OnGoal, unseen}
+use Rattle.patch_layout.specs.Spread.{Marked, InQueue, Spread, NoneBefore, OnGoal, unseen}
 use Rattle.patch_layout.proofs.Places.{get_set_cases, same_entry, get_from_Contains, Contains_from_get, get_map, get_mapped, mark_kept, get_set_here, get_cases, get_added, get_kept, get_below, count_by-set_true}
 use Rattle.patch_layout.proofs.Walking.{spread_push, spread_step}
 use Rattle.region_plan.specs.Free.{Free}
-use Rattle.region_plan.specs.Walk.{Looked, BegunTo, FreeOnes, Sought, WalkGoesOn, Continues, Meets}
+use Rattle.region_plan.specs.inside.Walk.{Looked, BegunTo, FreeOnes, Sought, WalkGoesOn, Continues, Meets}
 use Rattle.region_plan.specs.declared.walk.Met.{Met}
-use Rattle.region_plan.specs.Tree.{cells_in, PlaceOf}
+use Rattle.region_plan.specs.inside.Tree.{cells_in, PlaceOf}
 
 unmarked_apart : (seen : List Bool) (a b : ℕ) → Marked seen a → slice_get seen b ≡ Some false → a ≡ b → ⊥
 unmarked_apart seen a b m u e =
@@ -119,7 +119,7 @@ pub record Seeking (g : Grid) (held pair : List (Option ℕ)) (tree : List Reach
   pub starts : List ℕ
   pub ones : FreeOnes g held pair starts
   pub spread : Spread g (Free g held) starts queue head seen
-  pub none : NoneBelow (InQueue tree) queue head
+  pub none : NoneBefore (InQueue tree) queue head
   pub low : head ≤ length queue
   pub few : length queue + unseen seen ≤ 8192
   pub sizes : length seen ≡ length g.sites
@@ -307,14 +307,14 @@ pub sought_none : (g : Grid) (held pair : List (Option ℕ)) (tree queue : List 
     → Seeking g held pair tree queue head seen → length queue ≤ head → Sought g held pair tree queue seen None
 sought_none g held pair tree queue head seen s end =
     let same : head ≡ length queue = omega (arith, s.low) in
-    let P : ℕ → Type 0 = λ x. Spread g (Free g held) s.starts queue x seen × NoneBelow (InQueue tree) queue x in
+    let P : ℕ → Type 0 = λ x. Spread g (Free g held) s.starts queue x seen × NoneBefore (InQueue tree) queue x in
     (s.starts, s.ones, subst P same (s.spread, s.none))
 
 pub pair_item : (pair : List (Option ℕ)) (n : ℕ) (o : Option ℕ) → n < length pair → get_or pair n None ≡ o → slice_get pair n ≡ Some o
 pair_item pair n o in' is = rw (← is) (slice_get-get_or pair n None in')
 
 -- one more entry isn't in the region
-pub none_more : (walk tree : List Reached) (n : ℕ) (d : Reached) → NoneBelow (InQueue tree) walk n → n < length walk → PlaceOf tree (get_or walk n d).cell None → NoneBelow (InQueue tree) walk (n + 1)
+pub none_more : (walk tree : List Reached) (n : ℕ) (d : Reached) → NoneBefore (InQueue tree) walk n → n < length walk → PlaceOf tree (get_or walk n d).cell None → NoneBefore (InQueue tree) walk (n + 1)
 none_more walk tree n d none in' off k x lt is on = elim (cases_lt k n) [
   | inl less ↦ none k x less is on
   | inr ge ↦
@@ -326,9 +326,9 @@ none_more walk tree n d none in' off k x lt is on = elim (cases_lt k n) [
 ]
 
 -- the entry is in the region
-pub met_at : (walk tree : List Reached) (n place : ℕ) (d : Reached) → NoneBelow (InQueue tree) walk n → n < length walk → PlaceOf tree (get_or walk n d).cell (Some place) → Meets walk tree (Some (record { head = n; place = place }))
+pub met_at : (walk tree : List Reached) (n place : ℕ) (d : Reached) → NoneBefore (InQueue tree) walk n → n < length walk → PlaceOf tree (get_or walk n d).cell (Some place) → Meets walk tree (Some (record { head = n; place = place }))
 met_at walk tree n place d none in' (x, is, cell) = (none, (get_or walk n d, x, slice_get-get_or walk n d in', is, cell))
 
 -- none is
-pub none_whole : (walk tree : List Reached) (n : ℕ) → NoneBelow (InQueue tree) walk n → length walk ≤ n → Meets walk tree None
+pub none_whole : (walk tree : List Reached) (n : ℕ) → NoneBefore (InQueue tree) walk n → length walk ≤ n → Meets walk tree None
 none_whole walk tree n none all k r lt is on = none k r (omega arith) is on

@@ -9,9 +9,9 @@ use Rattle.patch_layout.specs.Grid.{Grid}
 use Rattle.patch_layout.specs.Region.{OnSide, Ascend}
 use Rattle.patch_layout.specs.Spread.{starting}
 use Rattle.patch_layout.proofs.Places.{same_entry, get_from_Contains, get_cases}
-use Rattle.region_plan.specs.Growing.{CutOff}
-use Rattle.region_plan.specs.Tree.{cells_in, Rooted}
-use Rattle.region_plan.specs.Ways.{Sprung, SprungFrom, GrownOver, At, Served}
+use Rattle.region_plan.specs.inside.Growing.{CutOff}
+use Rattle.region_plan.specs.inside.Tree.{cells_in, Rooted}
+use Rattle.region_plan.specs.inside.Ways.{Sprung, SprungFrom, GrownOver, At, Served}
 use Rattle.region_plan.specs.declared.growth.Region.{Region}
 use Rattle.region_plan.proofs.Least.{Distinct}
 

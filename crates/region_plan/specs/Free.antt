@@ -1,8 +1,6 @@
 -- What a look leaves to a region.
 use Rattle.std.specs.Prelude.{◌≡◌, ◌≢◌, ℕ, true, false, ◌<◌, slice_get, List, Option, Some, None, All}
-use Rattle.pauli_product.specs.declared.Letter.{Letter}
-use Rattle.pauli_product.specs.declared.Letter.TheVariants as letter
-use Rattle.pauli_product.specs.Signed.{Signed}
+use Rattle.pauli_product.specs.Signed.{HasLetter}
 use Rattle.patch_layout.specs.declared.look.Look.{Look}
 use Rattle.patch_layout.specs.Grid.{Grid, IsAncilla, IsPatch, IsPort}
 use Rattle.patch_layout.specs.Region.{Fit}
@@ -13,10 +11,6 @@ IsUnheld held c = slice_get held c ≡ Some None
 -- an ancilla cell that no product holds
 abbrev pub Free : Grid → List (Option ℕ) → ℕ → Type 0
 Free g held c = IsAncilla g c × IsUnheld held c
-
--- the qubit has a letter other than I
-abbrev pub HasLetter : Signed → ℕ → Type 0
-HasLetter axis q = (l : Letter) × (slice_get axis.letters q ≡ Some l) × (l ≢ letter.I)
 
 -- the qubit has a letter, and a product holds its patch
 abbrev pub IsHeldAt : Grid → Look → ℕ → Type 0

@@ -1,11 +1,4 @@
 pub mod Free
 pub mod Answer
-pub mod Growing
-pub mod Walk
-pub mod Tree
-pub mod Kept
-pub mod Follow
-pub mod Ways
-pub mod Finish
-pub mod Ports
 pub mod Laws
+pub mod inside

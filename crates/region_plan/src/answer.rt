@@ -3,7 +3,7 @@
 ghost use Rattle.std.specs.Prelude.{◌≡◌, ℕ, Option, List, length};
 ghost use Rattle.patch_layout.specs.Grid.{Grid};
 ghost use Rattle.patch_layout.specs.declared.look.Look.{Look as LookValue};
-ghost use Rattle.region_plan.specs.Free.{HasLetter};
+ghost use Rattle.pauli_product.specs.Signed.{HasLetter};
 ghost use Rattle.region_plan.specs.Answer.{Answers, LeastJoined};
 ghost use Rattle.region_plan.specs.Laws.{LeastJoinedIsJoined, RegionsFit};
 

@@ -2,12 +2,12 @@
 
 ghost use Rattle.std.specs.Prelude.{◌≡◌, ◌≢◌, ℕ, ◌<◌, ◌≤◌, length, IfOk, AllPairs, All, IsPermutation};
 ghost use Rattle.patch_layout.specs.Case.{Ascending};
-ghost use Rattle.patch_layout.specs.Tree.{Tree, Named};
+ghost use Rattle.patch_layout.specs.Tree.{Tree, ParentsNamed};
 ghost use Rattle.patch_layout.specs.Region.{wanted_sides};
 ghost use Rattle.region_plan.specs.Free.{Free};
-ghost use Rattle.region_plan.specs.Tree.{cells_in};
-ghost use Rattle.region_plan.specs.Ways.{Sprung};
-ghost use Rattle.region_plan.specs.Finish.{PlacesIn, Renumbered, Finished};
+ghost use Rattle.region_plan.specs.inside.Tree.{cells_in};
+ghost use Rattle.region_plan.specs.inside.Ways.{Sprung};
+ghost use Rattle.region_plan.specs.inside.Finish.{PlacesIn, Renumbered, Finished};
 
 use crate::growth::Region;
 use patch_base::Memory;
@@ -50,7 +50,7 @@ fn parents_of(
     requires tree { Tree cells.now tree.now }
     requires places { PlacesIn cells.now places.now }
     ensures sizes { IfOk result (λ parents. length parents.items ≡ length cells.now) }
-    ensures named { IfOk result (λ parents. Named tree.now places.now parents.items
+    ensures named { IfOk result (λ parents. ParentsNamed tree.now places.now parents.items
         (length tree.now)) }
 {
     let mut parents = vec![in alloc; Parent { index: 0, depth: 0 }; cells.len()]?;

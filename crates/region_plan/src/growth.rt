@@ -4,10 +4,10 @@ ghost use Rattle.std.specs.Prelude.{◌≡◌, ◌≢◌, ℕ, length, IfOk, All
 ghost use Rattle.patch_layout.specs.Grid.{Sound};
 ghost use Rattle.patch_layout.specs.Region.{OnSide};
 ghost use Rattle.region_plan.specs.Free.{Free};
-ghost use Rattle.region_plan.specs.Tree.{cells_in, Rooted, Grafted};
-ghost use Rattle.region_plan.specs.Ways.{At, Served, SprungFrom};
-ghost use Rattle.region_plan.specs.Kept.{Suits};
-ghost use Rattle.region_plan.specs.Follow.{SomeLeading, EachFollows};
+ghost use Rattle.region_plan.specs.inside.Tree.{cells_in, Rooted, Grafted};
+ghost use Rattle.region_plan.specs.inside.Ways.{At, Served, SprungFrom};
+ghost use Rattle.region_plan.specs.inside.Kept.{Suits};
+ghost use Rattle.region_plan.specs.inside.Follow.{SomeLeading, EachFollows};
 
 use crate::free::free_one;
 use crate::kept::Walks;

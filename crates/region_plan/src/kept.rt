@@ -2,7 +2,7 @@
 
 ghost use Rattle.std.specs.Prelude.{◌≡◌, ℕ, ◌<◌, [], length, IfOk, IfSome, IsTrue, false, List, Option};
 ghost use Rattle.patch_layout.specs.Grid.{Grid};
-ghost use Rattle.region_plan.specs.Kept.{Like, AncillaTo, Unheld, KeptFrom, HasWalk, Suits};
+ghost use Rattle.region_plan.specs.inside.Kept.{Like, AncillaTo, Unheld, KeptFrom, HasWalk, Suits};
 
 use crate::marks::Marks;
 use crate::walk::walk_from;
@@ -38,7 +38,7 @@ pub(crate) struct Walks {
 impl Model for Walks {
     ghost use Rattle.std.specs.Prelude.{List};
     ghost use Rattle.region_plan.specs.declared.kept.Walk.{Walk};
-    ghost use Rattle.region_plan.specs.Kept.{AllKept, used};
+    ghost use Rattle.region_plan.specs.inside.Kept.{AllKept, used};
 
     ghost Value = { List Walk };
 

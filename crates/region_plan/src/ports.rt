@@ -3,10 +3,10 @@
 ghost use Rattle.std.specs.Prelude.{◌≡◌, ℕ, ◌<◌, All, None, IfOk, false};
 ghost use Rattle.patch_layout.specs.Region.{wanted_sides};
 ghost use Rattle.region_plan.specs.Free.{Free, IsOffered};
-ghost use Rattle.region_plan.specs.Tree.{cells_in};
-ghost use Rattle.region_plan.specs.Ways.{HasTables};
-ghost use Rattle.region_plan.specs.Kept.{Suits};
-ghost use Rattle.region_plan.specs.Ports.{PortTried, PortJoined, WayAt, BestWay};
+ghost use Rattle.region_plan.specs.inside.Tree.{cells_in};
+ghost use Rattle.region_plan.specs.inside.Ways.{HasTables};
+ghost use Rattle.region_plan.specs.inside.Kept.{Suits};
+ghost use Rattle.region_plan.specs.inside.Ports.{PortTried, PortJoined, WayAt, BestWay};
 
 use crate::free::{is_offered, ready_of};
 use crate::growth::{Region, join, region_at};

@@ -2,7 +2,7 @@
 
 ghost use Rattle.std.specs.Prelude.{◌≡◌, ℕ, ◌<◌, ◌∷◌, [], length, slice_get, IfOk, Some, ◌↔◌};
 ghost use Rattle.patch_layout.specs.Spread.{starting, InQueue};
-ghost use Rattle.region_plan.specs.Tree.{growth, PlaceOf, Pushed};
+ghost use Rattle.region_plan.specs.inside.Tree.{growth, PlaceOf, Pushed};
 
 use patch_base::Memory;
 use patch_layout::Reached;
@@ -19,7 +19,7 @@ pub(crate) struct Tree {
 
 impl Model for Tree {
     ghost use Rattle.std.specs.Prelude.{length};
-    ghost use Rattle.region_plan.specs.Tree.{Growth, Placing, growth};
+    ghost use Rattle.region_plan.specs.inside.Tree.{Growth, Placing, growth};
 
     ghost Value = { Growth };
 

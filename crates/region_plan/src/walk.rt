@@ -4,7 +4,7 @@ ghost use Rattle.std.specs.Prelude.{◌≡◌, ℕ, ◌+◌, ◌<◌, ◌≤◌,
 ghost use Rattle.patch_layout.specs.Grid.{Sound};
 ghost use Rattle.patch_layout.specs.Spread.{Spread, unseen};
 ghost use Rattle.region_plan.specs.Free.{Free};
-ghost use Rattle.region_plan.specs.Walk.{Looked, BegunTo, Sought, WalkGoesOn, Continues, Meets};
+ghost use Rattle.region_plan.specs.inside.Walk.{Looked, BegunTo, Sought, WalkGoesOn, Continues, Meets};
 
 use crate::free::is_free;
 use crate::marks::Marks;

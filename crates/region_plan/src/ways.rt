@@ -1,8 +1,8 @@
 //! Plans through what a region may take.
 
 ghost use Rattle.std.specs.Prelude.{◌≡◌, ℕ, length, true, None, IfOk};
-ghost use Rattle.region_plan.specs.Free.{HasLetter};
-ghost use Rattle.region_plan.specs.Finish.{Through, Found};
+ghost use Rattle.pauli_product.specs.Signed.{HasLetter};
+ghost use Rattle.region_plan.specs.inside.Finish.{Through, Found};
 
 use crate::certificate::finish;
 use crate::growth::region_on;

@@ -9,8 +9,10 @@ use Rattle.qasm_parse.specs.declared.tree.Tree.{Tree}
 use Rattle.qasm_parse.specs.Pass.{Parses}
 use Rattle.qasm_expand.specs.Limits.{passing, IsRefused as IsPast}
 use Rattle.product_list.specs.ListText.{list_circuit}
-use Rattle.rotation_list.specs.Items.{HasNames, IsTreeOf}
-use Rattle.rotation_list.specs.Texts.{FaultOf, IsFaulty, IsProgramOf, IsRefused, StandsFor, is_list}
+use Rattle.rotation_list.specs.Items.{IsTreeOf}
+use Rattle.rotation_list.specs.inside.Items.{HasNames}
+use Rattle.rotation_list.specs.Texts.{IsFaulty, IsProgramOf, IsRefused, StandsFor, is_list}
+use Rattle.rotation_list.specs.inside.Texts.{FaultOf}
 use Rattle.rotation_list.specs.Texts.IsFaulty.{untokened, untreed, unbounded}
 use Rattle.rotation_list.proofs.Named.{tree_named}
 

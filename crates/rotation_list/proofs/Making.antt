@@ -9,7 +9,7 @@ use Rattle.source_model.specs.declared.Item.{Item}
 use Rattle.source_model.specs.declared.Register.{Register}
 use Rattle.source_model.specs.SourceRun.{axis_of}
 use Rattle.source_model.specs.Circuits.{BitsBelow, HiddenInOrder, IsOneLine, ReadsWhole, WellFormed, kinds}
-use Rattle.product_list.specs.Listable.{HasLetter}
+use Rattle.product_list.specs.Listable.{AxisHasLetter}
 use Rattle.rotation_list.specs.Gates.{t_gate, s_gate, h_gate, controlled, measured}
 use Rattle.rotation_list.specs.Generated.{draw, operation, operations, measurements, big_items, big_circuit}
 use Rattle.rotation_list.proofs.OneLine.{IsOneLine-bytes}
@@ -108,9 +108,9 @@ big_formed n = record {
 }
 
 -- each axis has a letter other than I
-pub big_letters : (n : ℕ) → All HasLetter (big_circuit n).items
+pub big_letters : (n : ℕ) → All AxisHasLetter (big_circuit n).items
 unfolding big_circuit
-big_letters n = All-from_recursion HasLetter (big_items n) (letters_fit 8 8 bits (big_items n) (all_fit n))
+big_letters n = All-from_recursion AxisHasLetter (big_items n) (letters_fit 8 8 bits (big_items n) (all_fit n))
 
 -- ---- how many products
 

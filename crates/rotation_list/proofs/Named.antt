@@ -34,7 +34,8 @@ use Rattle.qasm_parse.specs.Faults.{broken, first_fault, bits_pass, faults as fa
 use Rattle.qasm_parse.specs.Behind.{declared_at, with_classical, behind}
 use Rattle.qasm_parse.specs.Pass.Continues.{ends, stops, breaks, goes_on}
 use Rattle.qasm_parse.specs.Pass.{Continues, Behind, terminals, unless}
-use Rattle.rotation_list.specs.Items.{HasNames, IsNamed, IsTreeOf}
+use Rattle.rotation_list.specs.Items.{IsTreeOf}
+use Rattle.rotation_list.specs.inside.Items.{HasNames, IsNamed}
 use Rattle.rotation_list.proofs.OneLine.{IsOneLine-bytes}
 
 -- ---- words have bytes of words alone

@@ -34,8 +34,9 @@ use Rattle.qasm_expand.specs.Limits as limits
 use Rattle.qasm_expand.specs.Limits.{gate_products, if_products, products, product_count, is_past, line_of, passing, passing_from}
 use Rattle.rotation_list.proofs.Each.{both_parts}
 use Rattle.rotation_list.specs.Gates.{one_letter, two_letters, turn_one, controlled, conditional, measured}
-use Rattle.rotation_list.specs.Items.{one_gate, two_gate, conditional_gate, flat_items, hidden_in, items_from, ActsBelow, register_in, IsNamed, HasNames, circuit_of}
-use Rattle.product_list.specs.Listable.{HasLetter}
+use Rattle.rotation_list.specs.Items.{one_gate, two_gate, conditional_gate, flat_items, hidden_in, items_from, register_in, circuit_of}
+use Rattle.rotation_list.specs.inside.Items.{ActsBelow, IsNamed, HasNames}
+use Rattle.product_list.specs.Listable.{AxisHasLetter}
 
 -- a register of these bits
 abbrev IsOne : ℕ → ℕ → Register → Type 0
@@ -86,7 +87,7 @@ all_act tree fs h k d l = acts_placed tree (slice_index_or fs k d) (h k d l)
 
 pub record Fits (n high : ℕ) (registers : List Register) (i : Item) : Type 0 where
   pub axis : OfLength n (axis_of i)
-  pub letter : HasLetter i
+  pub letter : AxisHasLetter i
   pub below : BitsBelow high i
   pub whole : ReadsWhole registers i
 
@@ -304,7 +305,7 @@ pub reads_fit : (n high : ℕ) (registers : List Register) (is : List Item) → 
 reads_fit n high registers [] h = tt
 reads_fit n high registers (i ∷ is) h = (h.0.whole, reads_fit n high registers is h.1)
 
-pub letters_fit : (n high : ℕ) (registers : List Register) (is : List Item) → AllFit n high registers is → ByRecursion HasLetter is
+pub letters_fit : (n high : ℕ) (registers : List Register) (is : List Item) → AllFit n high registers is → ByRecursion AxisHasLetter is
 letters_fit n high registers [] h = tt
 letters_fit n high registers (i ∷ is) h = (h.0.letter, letters_fit n high registers is h.1)
 
@@ -334,14 +335,14 @@ program_formed text tree sound placed names =
       hidden_in_order = rw same (all_order tree bits (bits + hidden) registers (flats_of tree) placed known (omega arith) refl);
     }
 
-pub program_lettered : (text : List ℕ) (tree : Tree) → IsSound tree → All (IsPlaced tree) (flats_of tree) → All HasLetter (circuit_of text tree).items
+pub program_lettered : (text : List ℕ) (tree : Tree) → IsSound tree → All (IsPlaced tree) (flats_of tree) → All AxisHasLetter (circuit_of text tree).items
 unfolding circuit_of
 program_lettered text tree sound placed =
     let bits = members tree.classical in
     let high = bits + sum_by hidden_in (flats_of tree) in
     let registers = map (register_in text) tree.classical in
     let items = items_from (members tree.quantum) bits (flats_of tree) in
-    All-from_recursion HasLetter items (letters_fit (members tree.quantum) high registers items (all_fit tree bits high registers (flats_of tree) placed (declared text tree.classical sound.classical) (omega arith) (omega arith)))
+    All-from_recursion AxisHasLetter items (letters_fit (members tree.quantum) high registers items (all_fit tree bits high registers (flats_of tree) placed (declared text tree.classical sound.classical) (omega arith) (omega arith)))
 
 -- ---- products
 

@@ -1,10 +1,9 @@
 -- The items of a program: its flat operations, each replaced by its turns, measurements and settled products.
-use Rattle.std.specs.Prelude.{◌≡◌, ℕ, ◌+◌, ◌<◌, ◌≤◌, true, false, List, length, [], ◌∷◌, ◌++◌, map, sum_by, slice_range, Ok, None, All}
+use Rattle.std.specs.Prelude.{◌≡◌, ℕ, ◌+◌, true, false, List, [], ◌∷◌, ◌++◌, map, sum_by, slice_range, Ok, None}
 use Rattle.pauli_product.specs.declared.Letter.TheVariants.{X, Y, Z}
 use Rattle.source_model.specs.declared.Circuit.{Circuit}
 use Rattle.source_model.specs.declared.Item.{Item}
 use Rattle.source_model.specs.declared.Register.{Register}
-use Rattle.source_model.specs.Circuits.{IsOneLine}
 use Rattle.qasm_lex.specs.Tokens.{tokens_of}
 use Rattle.qasm_lex.specs.declared.Token.{Token}
 use Rattle.qasm_parse.specs.declared.tree.Gate1.{Gate1}
@@ -69,28 +68,9 @@ unfoldable pub items_from : ℕ → ℕ → List Flat → List Item
 items_from n next [] = []
 items_from n next (f ∷ fs) = flat_items n next f ++ items_from n (next + hidden_in f) fs
 
--- an operation acts on the first so many qubits
-abbrev pub ActsBelow : ℕ → Flat → Type 0
-ActsBelow n (flats.Gate1 gate q) = q < n
-ActsBelow n (flats.Gate2 gate a b) = (a < n) × (b < n)
-ActsBelow n (flats.Measure q bit) = q < n
-ActsBelow n (flats.Reset q) = q < n
-ActsBelow n (flats.If gate q first size value) = q < n
-
 -- a classical register, by the span of its name in the text
 abbrev pub register_in : List ℕ → Declared → Register
 register_in text d = record { name = slice_range text d.start d.end; first = d.first; size = d.size }
-
--- the name of a register stands in the text, on one line
-pub record IsNamed (text : List ℕ) (d : Declared) : Type 0 where
-  pub ordered : d.start ≤ d.end
-  pub within : d.end ≤ length text
-  pub one_line : IsOneLine (slice_range text d.start d.end)
-
--- few registers, each with its name
-pub record HasNames (text : List ℕ) (tree : Tree) : Type 0 where
-  pub few : length tree.classical ≤ 64
-  pub named : All (IsNamed text) tree.classical
 
 -- the circuit of a tree; hidden bits are numbered after all bits of registers
 unfoldable pub circuit_of : List ℕ → Tree → Circuit

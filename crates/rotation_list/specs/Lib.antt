@@ -8,3 +8,4 @@ pub mod Items
 pub mod Texts
 pub mod Generated
 pub mod Laws
+pub mod inside

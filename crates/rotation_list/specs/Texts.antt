@@ -40,8 +40,3 @@ IsRefused text fault.Memory = ⊥
 IsRefused text (fault.At line kind) =
     ((is_list text ≡ true) × (list_circuit text ≡ Err (fault.At line kind)))
     ⊎ ((is_list text ≡ false) × IsFaulty text line kind)
-
--- what a program is refused with, or out of memory
-abbrev pub FaultOf : List ℕ → CircuitFault → Type 0
-FaultOf text fault.Memory = Unit {0}
-FaultOf text (fault.At line kind) = IsFaulty text line kind

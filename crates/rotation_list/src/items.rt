@@ -1,7 +1,8 @@
 //! The items of flat operations.
 
 ghost use Rattle.std.specs.Prelude.{◌≡◌, ◌<◌, ◌≤◌, ◌+◌, ◌++◌, All, length, sum_by, IfOk, OnOk};
-ghost use Rattle.rotation_list.specs.Items.{one_gate, two_gate, conditional_gate, flat_items, hidden_in, items_from, ActsBelow};
+ghost use Rattle.rotation_list.specs.Items.{one_gate, two_gate, conditional_gate, flat_items, hidden_in, items_from};
+ghost use Rattle.rotation_list.specs.inside.Items.{ActsBelow};
 
 use crate::gates::{
     push_conditional, push_controlled, push_h, push_half, push_measure, push_reset, push_s,

@@ -4,7 +4,7 @@ ghost use Rattle.std.specs.Prelude.{◌≡◌, ℕ, ◌<◌, ◌≤◌, ◌^◌,
 ghost use Rattle.source_model.specs.Circuits.{WellFormed, kinds};
 ghost use Rattle.patch_base.specs.Texts.{digit, spaced};
 ghost use Rattle.rotation_list.specs.Generated.{next_number, draw, operation, measurements, big_items, big_circuit, big_layout, big_outcomes, outcome_lines, outcome_words};
-ghost use Rattle.product_list.specs.Listable.{HasLetter};
+ghost use Rattle.product_list.specs.Listable.{AxisHasLetter};
 ghost use Rattle.product_list.specs.Printed.{line_text};
 
 use crate::gates::{push_controlled, push_h, push_measure, push_s, push_t};
@@ -75,7 +75,7 @@ pub fn generate(alloc: Global, n: u32) -> Result<Big, Memory>
     ensures circuit { IfOk result (λ big. big.circuit ≡ big_circuit n) }
     ensures formed { IfOk result (λ big. WellFormed big.circuit) }
     ensures few { IfOk result (λ big. length (kinds big.circuit.items) ≤ n + 8) }
-    ensures letters { IfOk result (λ big. All HasLetter big.circuit.items) }
+    ensures letters { IfOk result (λ big. All AxisHasLetter big.circuit.items) }
     ensures layout { IfOk result (λ big. big.layout ≡ big_layout) }
     ensures outcomes { IfOk result (λ big. big.outcomes ≡ big_outcomes n) }
 {

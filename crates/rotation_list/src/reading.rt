@@ -7,9 +7,11 @@ ghost use Rattle.source_model.specs.Circuits.{WellFormed, kinds};
 ghost use Rattle.qasm_lex.specs.declared.fault.CircuitFault.TheVariants as fault;
 ghost use Rattle.qasm_expand.specs.Flats.{flats_of};
 ghost use Rattle.qasm_expand.specs.Sound.{IsSound, members};
-ghost use Rattle.rotation_list.specs.Items.{ActsBelow, HasNames, IsNamed, IsTreeOf, circuit_of, register_in};
-ghost use Rattle.product_list.specs.Listable.{HasLetter};
-ghost use Rattle.rotation_list.specs.Texts.{FaultOf, IsProgramOf, IsRefused, StandsFor, is_list};
+ghost use Rattle.rotation_list.specs.Items.{IsTreeOf, circuit_of, register_in};
+ghost use Rattle.rotation_list.specs.inside.Items.{ActsBelow, HasNames, IsNamed};
+ghost use Rattle.product_list.specs.Listable.{AxisHasLetter};
+ghost use Rattle.rotation_list.specs.Texts.{IsProgramOf, IsRefused, StandsFor, is_list};
+ghost use Rattle.rotation_list.specs.inside.Texts.{FaultOf};
 
 use crate::items::program_items;
 use crate::law::law_one_circuit;
@@ -34,7 +36,7 @@ pub fn read_circuit(alloc: Global, text: &[u8]) -> Result<Circuit, CircuitFault>
     ensures read { IfOk result (StandsFor text.now) }
     ensures formed { IfOk result (λ c. WellFormed c) }
     ensures few { IfOk result (λ c. length (kinds c.items) ≤ 16384) }
-    ensures letters { IfOk result (λ c. All HasLetter c.items) }
+    ensures letters { IfOk result (λ c. All AxisHasLetter c.items) }
     ensures refused { IfErr result (λ f. (f ≡ fault.Memory) ⊎ IsRefused text.now f) }
     ensures exact { (c : Circuit) → StandsFor text.now c
         → MatchResult result (λ d. d ≡ c) (λ f. f ≡ fault.Memory) }
@@ -50,7 +52,7 @@ fn read_either(alloc: Global, text: &[u8]) -> Result<Circuit, CircuitFault>
     ensures read { IfOk result (StandsFor text.now) }
     ensures formed { IfOk result (λ c. WellFormed c) }
     ensures few { IfOk result (λ c. length (kinds c.items) ≤ 16384) }
-    ensures letters { IfOk result (λ c. All HasLetter c.items) }
+    ensures letters { IfOk result (λ c. All AxisHasLetter c.items) }
     ensures refused { IfErr result (λ f. (f ≡ fault.Memory) ⊎ IsRefused text.now f) }
 {
     if is_list(text) {
@@ -72,7 +74,7 @@ fn read_program(alloc: Global, text: &[u8]) -> Result<Circuit, CircuitFault>
     ensures read { IfOk result (IsProgramOf text.now) }
     ensures formed { IfOk result (λ c. WellFormed c) }
     ensures few { IfOk result (λ c. length (kinds c.items) ≤ 16384) }
-    ensures letters { IfOk result (λ c. All HasLetter c.items) }
+    ensures letters { IfOk result (λ c. All AxisHasLetter c.items) }
     ensures refused { IfErr result (FaultOf text.now) }
 {
     law_sound();

@@ -10,14 +10,14 @@ use Rattle.pauli_product.specs.Signed.{Signed, OfLength, IsNotIdentity}
 use Rattle.source_model.specs.declared.Static.{Static}
 use Rattle.source_model.specs.Used.{acts, acts_at, takes_region, is_used}
 use Rattle.patch_layout.specs.Grid.{Grid, Open}
-use Rattle.patch_layout.specs.Row.{wanted, IsUsed}
+use Rattle.patch_layout.specs.Row.{demand, IsUsed}
 use Rattle.magic_pool.specs.declared.Fail.{Fail}
 use Rattle.magic_pool.specs.Pooled.{Pooled}
 use Rattle.board_core.specs.Laws.{ProductsOfLength}
 use Rattle.board_core.specs.Limits.{WithinLimits}
 use Rattle.board_core.specs.Position.{job_with}
 use Rattle.board_core.specs.Suits.{IsOpenFor, HaveLetters}
-use Rattle.router_tests.specs.Jobs.{Suits}
+use Rattle.router_tests.specs.inside.Jobs.{Suits}
 
 -- a letter other than I acts
 acting : (l : Letter) → l ≢ I → IsTrue (acts l)
@@ -53,9 +53,9 @@ module _ (n : ℕ) (rotations : Bool) (products : List Static) (each : All (Suit
   at : (p : ℕ) (s : Static) → slice_get products p ≡ Some s → Suits n rotations s
   at p s e = subst (Suits n rotations) (get_or_from_slice_get products p s s e) (each p s (slice_get_within products p s e))
 
-  pub open_for : (g : Grid) → Open g (wanted (replicate n true) rotations) → IsOpenFor g products
+  pub open_for : (g : Grid) → Open g (demand (replicate n true) rotations) → IsOpenFor g products
   open_for g is_open = (
-    wanted (replicate n true) rotations,
+    demand (replicate n true) rotations,
     record { used = λ q u. all_used n q (used_within n products q long u); rotations = λ p s e r. (at p s e).kind r },
     is_open,
   )

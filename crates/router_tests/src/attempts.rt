@@ -1,6 +1,6 @@
 //! A router's single tries.
 
-ghost use Rattle.router_tests.specs.Sites.{MayTry};
+ghost use Rattle.router_tests.specs.inside.Sites.{MayTry};
 
 use crate::jobs::{Job, line, pair, settled, seven, sides};
 use crate::site::{Before, prepare, shared, site_for, take_first};

@@ -3,11 +3,11 @@
 ghost use Rattle.std.specs.Prelude.{◌≡◌, ◌≤◌, IsTrue, IfOk, All, length, replicate, true, []};
 ghost use Rattle.pauli_product.specs.Signed.{IsNotIdentity};
 ghost use Rattle.patch_layout.specs.Grid.{Open};
-ghost use Rattle.patch_layout.specs.Row.{wanted};
+ghost use Rattle.patch_layout.specs.Row.{demand};
 ghost use Rattle.source_model.specs.Circuits.{IsOutcomeOf};
 ghost use Rattle.source_model.specs.Statics.{AreOutcomesOf};
 ghost use Rattle.board_core.specs.Laws.{ProductsOfLength};
-ghost use Rattle.router_tests.specs.Jobs.{Suits};
+ghost use Rattle.router_tests.specs.inside.Jobs.{Suits};
 
 use crate::jobs::Job;
 use board_core::{Board, order_of, pool_of};
@@ -62,7 +62,8 @@ fn products(alloc: Global, job: &Job) -> Result<Vec<Static>, Memory>
 }
 
 fn layout(alloc: Global, job: &Job) -> Result<Layout, Memory>
-    ensures { IfOk result (λ layout. Open layout (wanted (replicate job.now.qubits true) job.now.rotations)) }
+    ensures { IfOk result (λ layout. Open layout (demand (replicate job.now.qubits true)
+        job.now.rotations)) }
 {
     let need = Need {
         qubits: job.qubits,

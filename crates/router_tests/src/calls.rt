@@ -1,7 +1,7 @@
 //! The calls that are made again while the turn is held, in one thread.
 
 ghost use Rattle.board_core.specs.Shows.{IsMadeFor};
-ghost use Rattle.grid_lock.specs.Passes.{IsOf};
+ghost use Rattle.grid_lock.specs.Passes.{IsPassOf};
 
 use crate::jobs::pair;
 use crate::site::{Site, plan_for, site_for};
@@ -16,9 +16,9 @@ use std::test::Fail;
 
 // A look at product 0, and none at a product that isn't there.
 fn look_twice(rt: &impl Abort, site: &Site, pass: &mut Pass, shown: &mut Look)
-    requires grid { IsOf site.now.grid pass.old }
+    requires grid { IsPassOf site.now.grid pass.old }
     requires made { IsMadeFor site.now.grid.opened shown.old }
-    ensures grid { IsOf site.now.grid pass.new }
+    ensures grid { IsPassOf site.now.grid pass.new }
 {
     let seen = look(&site.grid, pass, 0, shown);
     assert_eq!(rt; seen, Ok(()));
@@ -35,7 +35,7 @@ fn carry_out(
     plan: Plan,
     nodes: (Node<Noted>, Node<Noted>, Node<Noted>),
 )
-    requires { IsOf site.now.grid pass.old }
+    requires { IsPassOf site.now.grid pass.old }
 {
     let claimed = claim(&site.grid, pass, plan, nodes.0);
     let state = None;

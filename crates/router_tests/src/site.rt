@@ -3,9 +3,9 @@
 ghost use Rattle.std.specs.Prelude.{◌≡◌, ◌≤◌, [], length, IfOk};
 ghost use Rattle.board_core.specs.Laws.{ProductsOfLength};
 ghost use Rattle.board_core.specs.Shows.{IsMadeFor};
-ghost use Rattle.grid_lock.specs.Passes.{IsOf};
+ghost use Rattle.grid_lock.specs.Passes.{IsPassOf};
 ghost use Rattle.number_share.specs.Hands as shares;
-ghost use Rattle.router_tests.specs.Sites.{HoldsBelow, IsFirst, IsSite};
+ghost use Rattle.router_tests.specs.inside.Sites.{HoldsBelow, IsFirst, IsSite};
 
 use crate::board::{board_for, outcomes_for};
 use crate::jobs::Job;
@@ -73,7 +73,7 @@ pub(crate) fn site_for(alloc: Global, job: &Job) -> Result<(Site, Pass, Look), M
 pub(crate) fn shared(alloc: Global, outcomes: &Outcomes) -> Result<(Share, Hand, Hand), Fail>
     ensures owners { IfOk result (λ r. r.0.owners ≡ 2) }
     ensures numbers { IfOk result (λ r. r.0.numbers ≤ length outcomes.now.given) }
-    ensures hands { IfOk result (λ r. shares.IsOf r.0 r.1 × shares.IsOf r.0 r.2) }
+    ensures hands { IfOk result (λ r. shares.IsHandOf r.0 r.1 × shares.IsHandOf r.0 r.2) }
 {
     let numbers = outcomes.given.as_slice().len();
     if numbers > 16 {
@@ -87,8 +87,8 @@ pub(crate) fn shared(alloc: Global, outcomes: &Outcomes) -> Result<(Share, Hand,
 
 /// A hand takes the first numbers.
 pub(crate) fn take_first(share: &Share, hand: &mut Hand, count: u32) -> Result<(), Fail>
-    requires { shares.IsOf share.now hand.old }
-    ensures share { shares.IsOf share.now hand.new }
+    requires { shares.IsHandOf share.now hand.old }
+    ensures share { shares.IsHandOf share.now hand.new }
     ensures taken { IfOk result (λ _. HoldsBelow share.now hand.new count) }
 {
     for number in 0..count {
@@ -110,7 +110,7 @@ pub(crate) fn gathered(
     second: Hand,
 ) -> Result<Vec<u32>, Fail>
     requires owners { share.owners ≡ 2 }
-    requires hands { shares.IsOf share first × shares.IsOf share second }
+    requires hands { shares.IsHandOf share first × shares.IsHandOf share second }
 {
     let mut hands = Vec::with_capacity(alloc, 2)?;
     hands.push(first)?;
@@ -152,7 +152,7 @@ fn claim(
     axis: &[u8],
     cells: &[u32],
 ) -> Result<(), Fail>
-    requires { IsOf site.now.grid pass }
+    requires { IsPassOf site.now.grid pass }
 {
     let plan = plan_for(alloc, &site.layout, p, axis, cells)?;
     match site.grid.try_claim(&mut pass, plan, Node::empty(alloc)?) {
@@ -169,7 +169,7 @@ pub(crate) fn filled(
     factory: u32,
 ) -> Result<(MakerEnd, u32), Fail>
     requires site { IsSite site.now.grid site.now.layout site.now.outcomes.given }
-    requires pass { IsOf site.now.grid pass }
+    requires pass { IsPassOf site.now.grid pass }
 {
     let Some(_) = site.layout.store(factory) else {
         return Err("a factory".into());
@@ -183,7 +183,7 @@ pub(crate) fn filled(
 /// Does what is done before a router comes.
 pub(crate) fn prepare(alloc: Global, site: &Site, pass: Pass, before: Before) -> Result<(), Fail>
     requires site { IsSite site.now.grid site.now.layout site.now.outcomes.given }
-    requires pass { IsOf site.now.grid pass }
+    requires pass { IsPassOf site.now.grid pass }
 {
     match before {
         Before::Nothing => Ok(()),

@@ -2,7 +2,7 @@
 
 ghost use Rattle.std.specs.Prelude.{◌≤◌, ◌≡◌};
 ghost use Rattle.patch_base.specs.Outside.{Rose};
-ghost use Rattle.grid_lock.specs.Passes.{IsOf};
+ghost use Rattle.grid_lock.specs.Passes.{IsPassOf};
 
 use crate::attempts::first_wrong;
 use crate::jobs::pair;
@@ -26,13 +26,13 @@ struct Rival<'a> {
 }
 
 impl<'a> Model for Rival<'a> {
-    ghost use Rattle.grid_lock.specs.Passes.{Known, IsOf};
+    ghost use Rattle.grid_lock.specs.Passes.{Known, IsPassOf};
 
     ghost Value = { Known };
 
     ghost view = { λ r. r.pass };
 
-    ghost invariant = { λ r. IsOf r.grid.now r.pass };
+    ghost invariant = { λ r. IsPassOf r.grid.now r.pass };
 }
 
 impl<'a> Rival<'a> {
@@ -61,7 +61,7 @@ impl<'a> Gate for Rival<'a> {
 
 // A rival that claims product 0 by this cell.
 fn rival_for<'a>(alloc: Global, site: &'a Site, pass: Pass, cell: u32) -> Result<Rival<'a>, Memory>
-    requires { IsOf site.now.grid pass }
+    requires { IsPassOf site.now.grid pass }
 {
     let plan = plan_for(alloc, &site.layout, 0, b"+ZI", &[cell])?;
     let node = Node::empty(alloc)?;

@@ -8,7 +8,7 @@ use Rattle.source_model.specs.declared.Given.{Given}
 use Rattle.board_core.specs.declared.Noted.{Noted}
 use Rattle.board_core.specs.Position.{Position, IsLegal, with_history}
 use Rattle.grid_lock.specs.Views.{entries_by, opener}
-use Rattle.grid_lock.specs.Passes.{Known, Named, StandsIn, Closes, known}
+use Rattle.grid_lock.specs.Passes.{Known, NamedGrid, StandsIn, Closes, known}
 use Rattle.grid_lock.proofs.Lists.{only_zero}
 use Rattle.router_work.specs.Routes.{IsByWorker, Routes}
 use Rattle.router_work.specs.inside.Workers.{HasSplit, IsBack}
@@ -45,7 +45,7 @@ from_passes P log n (o ∷ os) stand mine none =
 abbrev pub GrewBy : (Noted → Type 0) → Position → Position → Type 0
 GrewBy P b p = (added : List Noted) × (p ≡ with_history b (b.history ++ added)) × All P added × IsLegal p
 
-module _ (P : Noted → Type 0) (g : Named) (first : Known) (others : List Known) (b p : Position) (c : Closes g first others p) where
+module _ (P : Noted → Type 0) (g : NamedGrid) (first : Known) (others : List Known) (b p : Position) (c : Closes g first others p) where
   pub grew : g.opened ≡ b → first.view.number ≡ 0 → first.view.seen ≡ b.history → first.view.mine ≡ b.history → All (λ (e : Noted). e.by ≡ 0) b.history
       → All (λ (o : Known). All P o.view.mine) others → GrewBy P b p
   grew opened number seen mine zeros back =
@@ -87,7 +87,7 @@ module _ (given : List Given) (k : ℕ) where
   routes_by : (b p : Position) → GrewBy (IsByWorker given k) b p → Routes given k b p
   routes_by b p x = record { added = x.0; is = x.1; by_workers = x.2; legal = x.3 }
 
-  module _ (g : Named) (first : Known) (others : List Known) (b p : Position) (c : Closes g first others p) where
+  module _ (g : NamedGrid) (first : Known) (others : List Known) (b p : Position) (c : Closes g first others p) where
     pub routes_split : (n : ℕ) (start : Known) → g.opened ≡ b → start ≡ known g.id (opener b) → HasSplit start n first → All (λ (e : Noted). e.by ≡ 0) b.history
         → All (IsBack g given k) others → Routes given k b p
     routes_split n start opened is split zeros back =

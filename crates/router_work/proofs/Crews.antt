@@ -13,7 +13,7 @@ use Rattle.board_core.specs.declared.Entry.{Entry}
 use Rattle.board_core.specs.declared.Noted.{Noted}
 use Rattle.patch_layout.specs.Grid.{Grid, HasStore}
 use Rattle.grid_lock.specs.Views.{entries_by, newcomer}
-use Rattle.grid_lock.specs.Passes.{Known, Named, IsCalm, known}
+use Rattle.grid_lock.specs.Passes.{Known, NamedGrid, IsCalm, known}
 use Rattle.router_work.specs.Passing.{IsRouted, IsStepOf, Passed}
 use Rattle.router_work.specs.Routes.{IsByWorker}
 use Rattle.router_work.specs.Routing.{HasFactory}
@@ -29,7 +29,7 @@ own_number q calm =
     (All-weaker (λ (e : Noted). (e.by == n) ≡ true) (λ (e : Noted). e.by ≡ n) (λ e t. eqb-true e.by n t) (entries_by n q.view.seen) (filter_passes (λ (e : Noted). e.by == n) q.view.seen))
 
 -- what a pass that was new made, with its number
-module _ (Makes : Entry → Type 0) (g : Named) (a c : ℕ) (p q : Known) (new : IsNew g a c p) (did : Passed Makes p q) where
+module _ (Makes : Entry → Type 0) (g : NamedGrid) (a c : ℕ) (p q : Known) (new : IsNew g a c p) (did : Passed Makes p q) where
   pub only_added : q.view.mine ≡ did.added
   only_added = did.mine ∙ ap (λ (l : List Noted). l ++ did.added) new.empty
 
@@ -38,7 +38,7 @@ module _ (Makes : Entry → Type 0) (g : Named) (a c : ℕ) (p q : Known) (new :
       (subst (λ (n : ℕ). All (λ (e : Noted). e.by ≡ n) q.view.mine) did.same.2 (own_number q did.calm))
 
 module _ {G : Type 0} where
-  pub worked_back : (g : Named) (given : List Given) (k : ℕ) (w v : Worker G) → IsHired g given k w → Worked w v → IsBack g given k (pass_of v)
+  pub worked_back : (g : NamedGrid) (given : List Given) (k : ℕ) (w v : Worker G) → IsHired g given k w → Worked w v → IsBack g given k (pass_of v)
   worked_back g given k (Route r) (Route s) hired did = record {
     of = (did.same.0 ∙ hired.1.of.0, did.same.1 ∙ hired.1.of.1);
     mine = All-same (IsByWorker given k) s.pass.view.mine did.added (only_added (IsRouted r.given) g 0 k r.pass s.pass hired.1 did)
@@ -56,18 +56,18 @@ module _ {G : Type 0} where
         inr (omega arith, omega arith, (m.factory, did.makes i d l)));
   }
 
-  pub all_back : (g : Named) (given : List Given) (k : ℕ) (ws vs : List (Worker G)) → All (IsHired g given k) ws → AreWorked ws vs → All (IsBack g given k) (map pass_of vs)
+  pub all_back : (g : NamedGrid) (given : List Given) (k : ℕ) (ws vs : List (Worker G)) → All (IsHired g given k) ws → AreWorked ws vs → All (IsBack g given k) (map pass_of vs)
   all_back g given k ws vs hired did =
       All-map (IsBack g given k) pass_of vs
       (λ i d l. worked_back g given k (get_or ws i d) (get_or vs i d) (hired i d (let s = did.same in omega arith)) (did.each i d (let s = did.same in omega arith)))
 
   -- the makers after the routers
-  pub all_hired : (g : Named) (given : List Given) (k : ℕ) (before after : List (Worker G)) → All (IsHired g given k) before → length before ≡ k → HireMakers g before after → All (IsHired g given k) after
+  pub all_hired : (g : NamedGrid) (given : List Given) (k : ℕ) (before after : List (Worker G)) → All (IsHired g given k) before → length before ≡ k → HireMakers g before after → All (IsHired g given k) after
   all_hired g given k before after routers count makers =
       All-same (IsHired g given k) after (before ++ makers.0) makers.1
       (All-append (IsHired g given k) before makers.0 routers (subst (λ (n : ℕ). All (IsHired g given n) makers.0) count (makers.2 given)))
 
-  pub passes_back : (g : Named) (given : List Given) (k : ℕ) (ws : List (Worker G)) (ps : List Known) → All (IsHired g given k) ws → ((ended : List (Worker G)) × AreWorked ws ended × (ps ≡ map pass_of ended)) → All (IsBack g given k) ps
+  pub passes_back : (g : NamedGrid) (given : List Given) (k : ℕ) (ws : List (Worker G)) (ps : List Known) → All (IsHired g given k) ws → ((ended : List (Worker G)) × AreWorked ws ended × (ps ≡ map pass_of ended)) → All (IsBack g given k) ps
   passes_back g given k ws ps hired t = All-same (IsBack g given k) ps (map pass_of t.0) t.2 (all_back g given k ws t.0 hired t.1)
 
   pub passes_count : (ws : List (Worker G)) (ps : List Known) → ((ended : List (Worker G)) × AreWorked ws ended × (ps ≡ map pass_of ended)) → length ps ≡ length ws
@@ -80,13 +80,13 @@ split_on p q r a b n x y is =
     ∙ ap (λ (m : ℕ). known p.grid (record p.view { made = m })) (let e : p.view.made + a + b ≡ p.view.made + n = omega arith in e))
 
 -- pass 0 after some splits
-pub first_after : (g : Named) (p q : Known) (a n m : ℕ) → IsFirst g a p → HasSplit p n q → m ≡ a + n → IsFirst g m q
+pub first_after : (g : NamedGrid) (p q : Known) (a n m : ℕ) → IsFirst g a p → HasSplit p n q → m ≡ a + n → IsFirst g m q
 first_after g p q a n m is split count =
     let e : p.view.made + n ≡ m = let t = is.2 in omega arith in
     subst (IsFirst g m) (sym split) (is.0, is.1, e)
 
 -- the next pass is new
-pub new_pass : (g : Named) (m b k n : ℕ) (p q r : Known) → IsFirst g m p → HasSplit p n q → r ≡ known q.grid (newcomer q.view) → b ≤ m + n → m + n < k → IsNew g b k r
+pub new_pass : (g : NamedGrid) (m b k n : ℕ) (p q r : Known) → IsFirst g m p → HasSplit p n q → r ≡ known q.grid (newcomer q.view) → b ≤ m + n → m + n < k → IsNew g b k r
 new_pass g m b k n p q r first split is low high =
     let now : IsFirst g (m + n) q = first_after g p q m n (m + n) first split refl in
     let number : r.view.number ≡ q.view.made + 1 = ap (λ (x : Known). x.view.number) is in
@@ -99,7 +99,7 @@ new_pass g m b k n p q r first split is low high =
     }
 
 -- the layout's factories are those of the grid's board
-pub factories_fit : (g : Named) (x : Grid) (fs : List ℕ) → x ≡ g.opened.job.grid → All (λ (f : ℕ). (s : ℕ) × HasStore x f s) fs → All (HasFactory g) fs
+pub factories_fit : (g : NamedGrid) (x : Grid) (fs : List ℕ) → x ≡ g.opened.job.grid → All (λ (f : ℕ). (s : ℕ) × HasStore x f s) fs → All (HasFactory g) fs
 factories_fit g x fs same each i d l = subst (λ (z : Grid). (s : ℕ) × HasStore z (get_or fs i d) s) same (each i d l)
 
 -- ---- outcomes

@@ -15,7 +15,7 @@ use Rattle.grid_lock.specs.declared.view.View.{View}
 use Rattle.grid_lock.specs.Views.{Extends}
 use Rattle.grid_lock.specs.declared.replies.TryStep.{TryStep}
 use Rattle.grid_lock.specs.declared.replies.TryStep.TheVariants as step
-use Rattle.grid_lock.specs.Passes.{Known, Named, IsOf, IsSamePass, IsCalm}
+use Rattle.grid_lock.specs.Passes.{Known, NamedGrid, IsPassOf, IsSamePass, IsCalm}
 use Rattle.grid_lock.specs.Replies.{Accepts, Finds, Steps}
 use Rattle.grid_lock.specs.Answers.{AcceptsStep, RefusesStep}
 use Rattle.router_work.specs.Passing.{IsStepOf, Passed, seen_board}
@@ -45,7 +45,7 @@ because_full NoFactory q f has because = absurd (because has.1.0 (has.1.1, has.0
 because_full (Stocked n) q f has because = (n, because.0, because.1, because.2)
 
 -- the factory is there, so that a step is refused only where its store is full
-pub full : (g : Named) (q : Known) (f : ℕ) (why : BoardStepWhy) (v : View) → IsOf g q → HasFactory g f → Finds v (λ b. RefusesStep b f why) q.view → IsFull q f
+pub full : (g : NamedGrid) (q : Known) (f : ℕ) (why : BoardStepWhy) (v : View) → IsPassOf g q → HasFactory g f → Finds v (λ b. RefusesStep b f why) q.view → IsFull q f
 full g q f why v of has found =
     because_full why q f
     (subst (λ (b : Position). (store : ℕ) × HasStore b.job.grid f store) (sym of.1) has)
@@ -56,7 +56,7 @@ module _ (s p q : Known) (f : ℕ) (node : Ptr) (went : Passed (IsStepOf f) s p)
   accepted r told =
       passed_on (IsStepOf f) s p q went (passed_added (IsStepOf f) p q told.0 same calm told.1 (Step f) (λ b. AcceptsStep b f r) refl told.2)
 
-  pub refused : (g : Named) (r : BoardStepRefused) → IsOf g q → HasFactory g f → ((v : View) × Waited p.view v × Steps v f node (Err (step.Refused r)) q.view)
+  pub refused : (g : NamedGrid) (r : BoardStepRefused) → IsPassOf g q → HasFactory g f → ((v : View) × Waited p.view v × Steps v f node (Err (step.Refused r)) q.view)
       → Passed (IsStepOf f) s q × TurnedMore 1 p q × IsFull q f
   refused g r of has told =
       let found : Finds told.0 (λ b. RefusesStep b f r.why) q.view = told.2.0 in (
@@ -66,7 +66,7 @@ module _ (s p q : Known) (f : ℕ) (node : Ptr) (went : Passed (IsStepOf f) s p)
       )
 
   -- the same of a result that is such a refusal
-  pub refused_as : (g : Named) (r : BoardStepRefused) (result : Result (ℕ × Stepped) TryStep) → result ≡ Err (step.Refused r) → IsOf g q → HasFactory g f
+  pub refused_as : (g : NamedGrid) (r : BoardStepRefused) (result : Result (ℕ × Stepped) TryStep) → result ≡ Err (step.Refused r) → IsPassOf g q → HasFactory g f
       → ((v : View) × Waited p.view v × Steps v f node result q.view) → Passed (IsStepOf f) s q × TurnedMore 1 p q × IsFull q f
   refused_as g r result is of has told =
       refused g r of has (subst (λ x. (v : View) × Waited p.view v × Steps v f node x q.view) is told)

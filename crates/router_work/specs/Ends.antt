@@ -2,7 +2,7 @@
 use Rattle.std.specs.Prelude.{◌≡◌, ◌⊎◌, ℕ, ◌+◌, ◌*◌, ◌%◌, ◌≤◌, [], length}
 use Rattle.std.specs.List.{Contains}
 use Rattle.patch_base.specs.Outside.{Rose}
-use Rattle.magic_pool.specs.Recount.{steps_of}
+use Rattle.magic_pool.specs.Recount.{step_count}
 use Rattle.patch_layout.specs.Grid.{HasStore}
 use Rattle.board_core.specs.History.{steps}
 use Rattle.board_core.specs.Position.{past}
@@ -58,7 +58,7 @@ LosesNone r s = (n : ℕ) → Contains s.hand.held n → Contains r.hand.held n 
 abbrev pub IsFull : Known → ℕ → Type 0
 IsFull q f =
     (store : ℕ) × HasStore q.view.opened.job.grid f store
-    × (steps_of f (steps (past (seen_board q))) % 11 ≡ 0) × (length (ready (seen_board q) f) ≡ store)
+    × (step_count f (steps (past (seen_board q))) % 11 ≡ 0) × (length (ready (seen_board q) f) ≡ store)
 
 -- a maker ends where its factory is full, after 64 refusals at least, or the turn was held 2 ^ 20 times in a row
 abbrev pub MakerEnds : MakerEnd → ℕ → Known → Known → Type 0

@@ -4,7 +4,7 @@ ghost use Rattle.std.specs.Prelude.{◌≡◌};
 ghost use denote.RawPtr.{Ptr};
 ghost use Rattle.patch_layout.specs.declared.plan.Plan.{Plan as Plans};
 ghost use Rattle.board_core.specs.Shows.{IsMadeFor};
-ghost use Rattle.grid_lock.specs.Passes.{IsOf, IsSamePass, IsCalm};
+ghost use Rattle.grid_lock.specs.Passes.{IsPassOf, IsSamePass, IsCalm};
 ghost use Rattle.grid_lock.specs.Replies.{AnswersWaits, Claims, Delivers, Releases, Steps, Looks};
 ghost use Rattle.grid_lock.specs.declared.replies.TryLook.TheVariants as looks;
 ghost use Rattle.grid_lock.specs.declared.replies.TryWaits.TheVariants as waiting;
@@ -33,8 +33,8 @@ pub const PATIENCE: u32 = 16_384;
 /// Waits until the history is longer than this, as long as the patience lasts: for so many reads of its length, which take no
 /// turn. Each wait in vain halves the patience.
 pub fn outwaits(grid: &Grid, pass: &mut Pass, length: u32, patience: &mut u32) -> bool
-    requires grid { IsOf grid.now pass.old }
-    ensures grid { IsOf grid.now pass.new }
+    requires grid { IsPassOf grid.now pass.old }
+    ensures grid { IsPassOf grid.now pass.new }
     ensures same { IsSamePass pass.old pass.new }
     ensures read { OnlyRead pass.old.view pass.new.view }
     ensures rests { IsCalm pass.new }
@@ -54,8 +54,8 @@ pub fn outwaits(grid: &Grid, pass: &mut Pass, length: u32, patience: &mut u32) -
 /// Says what a product waits on as `Grid::try_waits` does, tried again while the turn is held. `Busy` says that the turn was
 /// found held 1,048,576 times in a row.
 pub fn waits(grid: &Grid, pass: &mut Pass, p: u32) -> TryWaits
-    requires grid { IsOf grid.now pass.old }
-    ensures grid { IsOf grid.now pass.new }
+    requires grid { IsPassOf grid.now pass.old }
+    ensures grid { IsPassOf grid.now pass.new }
     ensures same { IsSamePass pass.old pass.new }
     ensures told { AfterWaiting pass.old.view (λ v. AnswersWaits v p result pass.new.view) }
     ensures busy { result ≡ waiting.Busy → MetMore 1048576 pass.old pass.new }
@@ -77,9 +77,9 @@ pub fn waits(grid: &Grid, pass: &mut Pass, p: u32) -> TryWaits
 ///
 /// `NoProduct` as there; `Busy` where the turn was found held 1,048,576 times in a row.
 pub fn look(grid: &Grid, pass: &mut Pass, p: u32, look: &mut Look) -> Result<(), TryLook>
-    requires grid { IsOf grid.now pass.old }
+    requires grid { IsPassOf grid.now pass.old }
     requires made { IsMadeFor grid.now.opened look.old }
-    ensures grid { IsOf grid.now pass.new }
+    ensures grid { IsPassOf grid.now pass.new }
     ensures same { IsSamePass pass.old pass.new }
     ensures told { AfterWaiting pass.old.view
         (λ v. Looks v p look.old result pass.new.view look.new) }
@@ -109,8 +109,8 @@ pub fn claim(
     plan: Plan,
     node: Node<Noted>,
 ) -> Result<Claimed, TryClaim>
-    requires grid { IsOf grid.now pass.old }
-    ensures grid { IsOf grid.now pass.new }
+    requires grid { IsPassOf grid.now pass.old }
+    ensures grid { IsPassOf grid.now pass.new }
     ensures same { IsSamePass pass.old pass.new }
     ensures told { AfterWaiting pass.old.view (λ v. Claims v plan node result pass.new.view) }
     ensures busy { (p : Plans) (n : Ptr) → result ≡ Err (claims.Busy p n)
@@ -152,8 +152,8 @@ pub fn deliver(
     given: Given,
     node: Node<Noted>,
 ) -> Result<u32, TryDeliver>
-    requires grid { IsOf grid.now pass.old }
-    ensures grid { IsOf grid.now pass.new }
+    requires grid { IsPassOf grid.now pass.old }
+    ensures grid { IsPassOf grid.now pass.new }
     ensures same { IsSamePass pass.old pass.new }
     ensures told { AfterWaiting pass.old.view (λ v. Delivers v p given node result pass.new.view) }
     ensures busy { (n : Ptr) → result ≡ Err (delivers.Busy n) → MetMore 1048576 pass.old pass.new }
@@ -180,8 +180,8 @@ pub fn deliver(
 ///
 /// `Refused` as there; `Busy` where the turn was found held 1,048,576 times in a row. Both give the node back.
 pub fn release(grid: &Grid, pass: &mut Pass, p: u32, node: Node<Noted>) -> Result<u32, TryRelease>
-    requires grid { IsOf grid.now pass.old }
-    ensures grid { IsOf grid.now pass.new }
+    requires grid { IsPassOf grid.now pass.old }
+    ensures grid { IsPassOf grid.now pass.new }
     ensures same { IsSamePass pass.old pass.new }
     ensures told { AfterWaiting pass.old.view (λ v. Releases v p node result pass.new.view) }
     ensures busy { (n : Ptr) → result ≡ Err (releases.Busy n) → MetMore 1048576 pass.old pass.new }
@@ -209,8 +209,8 @@ pub(crate) fn step(
     factory: u32,
     node: Node<Noted>,
 ) -> Result<(u32, Stepped), TryStep>
-    requires grid { IsOf grid.now pass.old }
-    ensures grid { IsOf grid.now pass.new }
+    requires grid { IsPassOf grid.now pass.old }
+    ensures grid { IsPassOf grid.now pass.new }
     ensures same { IsSamePass pass.old pass.new }
     ensures told { AfterWaiting pass.old.view (λ v. Steps v factory node result pass.new.view) }
     ensures busy { (n : Ptr) → result ≡ Err (steps.Busy n) → MetMore 1048576 pass.old pass.new }

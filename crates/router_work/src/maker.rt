@@ -3,7 +3,7 @@
 ghost use Rattle.std.specs.Prelude.{◌≡◌, ◌<◌, ◌≤◌, ℕ, ◌^◌, length, IfOk};
 ghost use denote.RawPtr.{Ptr};
 ghost use Rattle.board_core.specs.declared.board.BoardStepRefused.{BoardStepRefused as Refusals};
-ghost use Rattle.grid_lock.specs.Passes.{IsOf};
+ghost use Rattle.grid_lock.specs.Passes.{IsPassOf};
 ghost use Rattle.grid_lock.specs.declared.replies.TryStep.TheVariants as steps;
 ghost use Rattle.router_work.specs.Passing.{IsStepOf, Passed};
 ghost use Rattle.router_work.specs.Routing.{HasFactory};
@@ -41,20 +41,21 @@ pub struct Maker<'a> {
 }
 
 impl<'a> Model for Maker<'a> {
-    ghost use Rattle.grid_lock.specs.Passes.{IsOf};
-    ghost use Rattle.router_work.specs.Routing.{HasFactory, Making, making};
+    ghost use Rattle.grid_lock.specs.Passes.{IsPassOf};
+    ghost use Rattle.router_work.specs.Routing.{HasFactory, Making};
+    ghost use Rattle.router_work.specs.inside.Routing.{making};
 
     ghost Value = { Making };
 
     ghost view = { λ m. making m.grid.now m.pass m.factory };
 
-    ghost invariant = { λ m. IsOf m.grid.now m.pass × HasFactory m.grid.now m.factory };
+    ghost invariant = { λ m. IsPassOf m.grid.now m.pass × HasFactory m.grid.now m.factory };
 }
 
 impl<'a> Maker<'a> {
     /// A maker with a pass of the grid, for a factory of the layout of the grid's board.
     pub fn new(alloc: Global, grid: &'a Grid, pass: Pass, factory: u32) -> Maker<'a>
-        requires pass { IsOf grid.now pass }
+        requires pass { IsPassOf grid.now pass }
         requires factory { HasFactory grid.now factory }
         ensures grid { result.grid ≡ grid.entry.now }
         ensures pass { result.pass ≡ pass }
@@ -88,7 +89,7 @@ impl<'a> Maker<'a> {
 
 // Steps a factory until it is full, and refused 64 steps in a row.
 fn fill(alloc: Global, grid: &Grid, pass: &mut Pass, factory: u32) -> MakerEnd
-    requires grid { IsOf grid.now pass.old }
+    requires grid { IsPassOf grid.now pass.old }
     requires factory { HasFactory grid.now factory }
     ensures passed { Passed (IsStepOf factory) pass.old pass.new }
     ensures ends { MakerEnds result factory pass.old pass.new }
@@ -126,9 +127,9 @@ fn step_in_place(
     node: Node<Noted>,
     patience: &mut u32,
 ) -> Result<(u32, Stepped), TryStep>
-    requires grid { IsOf grid.now pass.old }
+    requires grid { IsPassOf grid.now pass.old }
     requires factory { HasFactory grid.now factory }
-    ensures grid { IsOf grid.now pass.new }
+    ensures grid { IsPassOf grid.now pass.new }
     ensures passed { Passed (IsStepOf factory) pass.old pass.new }
     ensures longer { IfOk result (λ _.
         length pass.old.view.seen < length pass.new.view.seen) }

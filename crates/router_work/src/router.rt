@@ -79,7 +79,8 @@ pub struct Router<'a, G: Gate> {
 impl<'a, G: Gate> Model for Router<'a, G> {
     ghost use Rattle.std.specs.Prelude.{◌≡◌};
     ghost use Rattle.board_core.specs.Shows.{IsMadeFor};
-    ghost use Rattle.router_work.specs.Routing.{Routing, IsSetUp, routing};
+    ghost use Rattle.router_work.specs.Routing.{Routing, IsSetUp};
+    ghost use Rattle.router_work.specs.inside.Routing.{routing};
 
     ghost Value = { Routing };
 
@@ -105,10 +106,10 @@ impl<'a, G: Gate> Router<'a, G> {
         look: Look,
         gate: G,
     ) -> Router<'a, G>
-        requires pass { grids.IsOf grid.now pass }
+        requires pass { grids.IsPassOf grid.now pass }
         requires layout { layout.now ≡ grid.now.opened.job.grid }
         requires look { IsMadeFor grid.now.opened look }
-        requires hand { shares.IsOf share.now hand }
+        requires hand { shares.IsHandOf share.now hand }
         requires outcomes { AreOutcomesOf outcomes.now.given grid.now.opened.job.products }
         requires numbers { share.now.numbers ≤ length outcomes.now.given }
         ensures grid { result.grid ≡ grid.entry.now }

@@ -6,7 +6,7 @@ ghost use Rattle.board_core.specs.declared.Noted.{Noted as Entries};
 ghost use Rattle.board_core.specs.Laws.{ProductsOfLength};
 ghost use Rattle.board_core.specs.Position.{IsLegal};
 ghost use Rattle.patch_layout.specs.Grid.{HasStore};
-ghost use Rattle.grid_lock.specs.Passes.{IsOf, Closes};
+ghost use Rattle.grid_lock.specs.Passes.{IsPassOf, Closes};
 ghost use Rattle.router_work.specs.Routes.{Routes};
 ghost use Rattle.router_work.specs.inside.Workers.{HasSplit, IsBack, IsFirst, IsLookOf};
 
@@ -86,9 +86,9 @@ fn qubits_of(board: &Board) -> u32
 
 // The board at the end.
 fn close(grid: Grid, first: Pass, others: Vec<Pass>) -> Board
-    requires grid { IsOf grid first }
+    requires grid { IsPassOf grid first }
     requires first { first.view.number ≡ 0 }
-    requires others { All (IsOf grid) others.items }
+    requires others { All (IsPassOf grid) others.items }
     requires all { length others.items ≡ first.view.made }
     ensures { Closes grid first others.items result }
 {

@@ -18,13 +18,15 @@ use Rattle.job_read.specs.Kept.{IsJob}
 use Rattle.job_read.specs.Made.{IsBigJob}
 use Rattle.job_read.specs.Shelves.{Shelved, job_on}
 use Rattle.tool_words.specs.Commands.{Run, run, bits, big, side}
-use Rattle.run_top.specs.declared.fault.Fault.{Fault}
-use Rattle.run_top.specs.declared.fault.Fault.TheVariants as fault
+use Rattle.run_top.specs.declared.fault.RunFault.{RunFault}
+use Rattle.run_top.specs.declared.fault.RunFault.TheVariants as fault
 use Rattle.run_top.specs.Big.{heading, summary}
-use Rattle.run_top.specs.Carried.{IsCarriedOut, IsRunSchedule}
+use Rattle.run_top.specs.Carried.{IsRunSchedule}
+use Rattle.run_top.specs.inside.Carried.{IsCarriedOut}
 use Rattle.run_top.specs.Ends.{Ends, Outputs}
 use Rattle.run_top.specs.Faults.{fault_of_write}
-use Rattle.run_top.specs.Told.{IsDone, IsOutside}
+use Rattle.run_top.specs.Told.{IsOutside}
+use Rattle.run_top.specs.inside.Told.{IsDone}
 use Rattle.run_top.specs.inside.Reads.{IsSideJob}
 use Rattle.run_top.proofs.Alone.{side_schedule}
 use Rattle.run_top.proofs.Carrying.{complete_for, run_schedule}
@@ -38,9 +40,9 @@ by_write r w t write.Failed a = a
 by_write r w t write.Memory a = (tt, a.2)
 
 -- the output took a first part of what the command writes, or nothing, out of memory
-pub stopped_ends : (r : Shelved) (w : Writing) (t : Run) (f : WriteFault) (end : Result (Unit {0}) Fault) → IsErrAnd end (λ e. e ≡ fault_of_write f) → Attempt r w t (Err f) → Ends r w t end
+pub stopped_ends : (r : Shelved) (w : Writing) (t : Run) (f : WriteFault) (end : Result (Unit {0}) RunFault) → IsErrAnd end (λ e. e ≡ fault_of_write f) → Attempt r w t (Err f) → Ends r w t end
 stopped_ends r w t f (Ok done) is a = absurd is
-stopped_ends r w t f (Err e) is a = subst (λ (x : Fault). Ends r w t (Err x)) (sym is) (by_write r w t f a)
+stopped_ends r w t f (Err e) is a = subst (λ (x : RunFault). Ends r w t (Err x)) (sym is) (by_write r w t f a)
 
 -- ---- what each command writes
 
@@ -80,7 +82,7 @@ side_attempt r w l k names job circuit b did law claims registers x same done wr
     )
 
 -- ---- errors of known kinds
-pub done_job : (end : Result (Unit {0}) Fault) (f : JobFault) → IsErrAnd end (λ e. e ≡ fault.Job f) → job_faults.IsOutside f → IsDone end
+pub done_job : (end : Result (Unit {0}) RunFault) (f : JobFault) → IsErrAnd end (λ e. e ≡ fault.Job f) → job_faults.IsOutside f → IsDone end
 done_job (Ok done) f is h = absurd is
 done_job (Err e) f is h = subst IsOutside (sym is) h
 
@@ -88,6 +90,6 @@ is_outside : (f : WriteFault) → IsOutside (fault_of_write f)
 is_outside write.Memory = tt
 is_outside write.Failed = tt
 
-pub done_write : (end : Result (Unit {0}) Fault) (f : WriteFault) → IsErrAnd end (λ e. e ≡ fault_of_write f) → IsDone end
+pub done_write : (end : Result (Unit {0}) RunFault) (f : WriteFault) → IsErrAnd end (λ e. e ≡ fault_of_write f) → IsDone end
 done_write (Ok done) f is = absurd is
 done_write (Err e) f is = subst IsOutside (sym is) (is_outside f)

@@ -14,8 +14,8 @@ use Rattle.job_read.specs.Reading.{IsNamed, IsTold}
 use Rattle.job_read.specs.Shelves.{Shelved, seen_on}
 use Rattle.job_read.specs.Stages.{LayoutRefused, LayoutStands}
 use Rattle.side_by_side.specs.Joined.{IsWithin, joined_circuit, sums_of}
-use Rattle.run_top.specs.declared.fault.Fault.{Fault}
-use Rattle.run_top.specs.declared.fault.Fault.TheVariants as fault
+use Rattle.run_top.specs.declared.fault.RunFault.{RunFault}
+use Rattle.run_top.specs.declared.fault.RunFault.TheVariants as fault
 use Rattle.run_top.specs.Sides.{AreCircuits, Sides, StandForSides, TablesStand, circuit_at, outcomes_at}
 use Rattle.run_top.specs.SideFaults.{AreTooMany, CircuitsTold, LayoutTold, StopsAtCircuit, StopsAtOutcomes, StopsAtTable, TablesTold, TellAllSides}
 use Rattle.run_top.specs.Told.{IsOutside, RefusesSides}
@@ -23,14 +23,14 @@ use Rattle.run_top.specs.inside.Reads.{CircuitsStop, JoinStops, TablesStop}
 use Rattle.run_top.proofs.Once.{Laws, circuit_blocked, circuit_once, circuits_same, table_blocked, table_once}
 
 -- each refusal is of one of four kinds
-pub record Refusals (r : Shelved) (l : List ℕ) (names : List (List ℕ)) (P : Fault → Type 0) : Type 0 where
+pub record Refusals (r : Shelved) (l : List ℕ) (names : List (List ℕ)) (P : RunFault → Type 0) : Type 0 where
   pub circuit : (j : ℕ) (x : CircuitFault) → CircuitsTold r names (2 * j + 1) → StopsAtCircuit r names j (job.Circuit x) → P (fault.Program j (job.Circuit x))
   pub join : (ds : List Circuit) (x : CircuitFault) → CircuitsTold r names (length names) → AreCircuits r names ds → AreTooMany ds (job.Circuit x) → P (fault.Job (job.Circuit x))
   pub layout : (ds : List Circuit) (x : LayoutFault) → LayoutTold r l names → AreCircuits r names ds → IsWithin (sums_of ds) →
       LayoutRefused l (seen_on r l) (joined_circuit ds) x → P (fault.Job (job.Layout x))
   pub table : (j : ℕ) (x : OutcomeFault) → LayoutTold r l names → TablesTold r names (2 * j + 2) → StopsAtTable r l names j (job.Outcomes x) → P (fault.Program j (job.Outcomes x))
 
-pub by_kind : (r : Shelved) (l : List ℕ) (names : List (List ℕ)) (P : Fault → Type 0) → Refusals r l names P → (f : Fault) → RefusesSides r l names f → P f
+pub by_kind : (r : Shelved) (l : List ℕ) (names : List (List ℕ)) (P : RunFault → Type 0) → Refusals r l names P → (f : RunFault) → RefusesSides r l names f → P f
 by_kind r l names P k (fault.Program j (job.Read w)) (told, stop, out) = absurd (out tt)
 by_kind r l names P k (fault.Program j (job.Circuit x)) (told, inl s, out) = k.circuit j x told s
 by_kind r l names P k (fault.Program j (job.Circuit x)) (told, inr (cs, g, on, (os, c, ts, len, at, stops)), out) = absurd stops
@@ -51,7 +51,7 @@ by_kind r l names P k fault.Unwritten (told, stop, out) = absurd stop
 by_kind r l names P k fault.Memory (told, stop, out) = absurd (out tt)
 
 -- this fault, or one of the outside
-abbrev pub Or : Fault → Fault → Type 0
+abbrev pub Or : RunFault → RunFault → Type 0
 Or e f = (e ≡ f) ⊎ IsOutside e
 
 less_or_more : (i j : ℕ) → (i < j) ⊎ (i ≡ j) ⊎ (j < i)
@@ -82,16 +82,16 @@ module _ (laws : Laws) (r : Shelved) (l : List ℕ) (names : List (List ℕ)) wh
     table = λ j x told tables (ds, g, on, s). inr (blocked_at i e ds told.0 on.circuits (below, (cs, stand, count, stops)));
   }
 
-  out_of_memory : (P : Fault → Type 0) → ((f : Fault) → P f) → Refusals r l names P
+  out_of_memory : (P : RunFault → Type 0) → ((f : RunFault) → P f) → Refusals r l names P
   out_of_memory P all = record { circuit = λ j x told s. all _; join = λ ds x told are many. all _; layout = λ ds x told are within refused. all _; table = λ j x told tables s. all _ }
 
-  pub circuits_refusals : (e : Fault) → CircuitsStop r names e → Refusals r l names (Or e)
+  pub circuits_refusals : (e : RunFault) → CircuitsStop r names e → Refusals r l names (Or e)
   circuits_refusals (fault.Program i e) stop = at_circuit i e stop
   circuits_refusals (fault.Job e) stop = absurd stop
   circuits_refusals fault.Unwritten stop = absurd stop
   circuits_refusals fault.Memory stop = out_of_memory (Or fault.Memory) (λ f. inr tt)
 
-  pub circuits_exact : (e : Fault) (s : Sides) → CircuitsStop r names e → TellAllSides r l names → StandForSides r l names s → IsOutside e
+  pub circuits_exact : (e : RunFault) (s : Sides) → CircuitsStop r names e → TellAllSides r l names → StandForSides r l names s → IsOutside e
   circuits_exact (fault.Program i e) s stop told stand = blocked_at i e s.circuits told.0.0 stand.on.circuits stop
   circuits_exact (fault.Job e) s stop told stand = absurd stop
   circuits_exact fault.Unwritten s stop told stand = absurd stop
@@ -117,13 +117,13 @@ module _ (laws : Laws) (r : Shelved) (l : List ℕ) (names : List (List ℕ)) wh
       table = λ j x told tables (ds, g, on, s). absurd (past (subst (λ (ys : List Circuit). IsWithin (sums_of ys)) (sym (same ds told.0 on.circuits)) on.within));
     }
 
-    pub join_refusals : (e : Fault) → JoinStops cs e → Refusals r l names (Or e)
+    pub join_refusals : (e : RunFault) → JoinStops cs e → Refusals r l names (Or e)
     join_refusals (fault.Program i e) stop = absurd stop
     join_refusals (fault.Job e) stop = many_refusals e stop
     join_refusals fault.Unwritten stop = absurd stop
     join_refusals fault.Memory stop = out_of_memory (Or fault.Memory) (λ f. inr tt)
 
-    pub join_exact : (e : Fault) (s : Sides) → JoinStops cs e → TellAllSides r l names → StandForSides r l names s → IsOutside e
+    pub join_exact : (e : RunFault) (s : Sides) → JoinStops cs e → TellAllSides r l names → StandForSides r l names s → IsOutside e
     join_exact (fault.Program i e) s stop told stand = absurd stop
     join_exact (fault.Job e) s (is, past) told stand = absurd (past (subst (λ (ys : List Circuit). IsWithin (sums_of ys)) (sym (same s.circuits told.0.0 stand.on.circuits)) stand.on.within))
     join_exact fault.Unwritten s stop told stand = absurd stop
@@ -153,7 +153,7 @@ module _ (laws : Laws) (r : Shelved) (l : List ℕ) (names : List (List ℕ)) wh
           subst (λ (k : Grid). StopsAtOutcomes r names cs k j x) (sym at) (subst (λ (ys : List Circuit). StopsAtOutcomes r names ys h j x) (sym e) s)
 
       -- whatever the tables say
-      tables_only : (P : Fault → Type 0) → ((j : ℕ) (x : OutcomeFault) → TablesTold r names (2 * j + 2) → StopsAtOutcomes r names cs g j (job.Outcomes x) → P (fault.Program j (job.Outcomes x))) → Refusals r l names P
+      tables_only : (P : RunFault → Type 0) → ((j : ℕ) (x : OutcomeFault) → TablesTold r names (2 * j + 2) → StopsAtOutcomes r names cs g j (job.Outcomes x) → P (fault.Program j (job.Outcomes x))) → Refusals r l names P
       tables_only P at = record {
         circuit = λ j x told s. absurd (no_circuit j x told s);
         join = λ ds x told are' many. absurd (many.1 (subst (λ (ys : List Circuit). IsWithin (sums_of ys)) (same ds told are') within));
@@ -180,7 +180,7 @@ module _ (laws : Laws) (r : Shelved) (l : List ℕ) (names : List (List ℕ)) wh
                   table_once laws (seen_on r (outcomes_at names i)) i c g e x (told i (omega (arith, is))) stops
                   (let same_c = same_Some c'' c (sym at'' ∙ at) in rw same_c at stops'')
 
-      pub tables_refusals : (e : Fault) → TablesStop r names cs g e → Refusals r l names (Or e)
+      pub tables_refusals : (e : RunFault) → TablesStop r names cs g e → Refusals r l names (Or e)
       tables_refusals (fault.Program i e) stop = tables_only (Or (fault.Program i e)) (λ j x told s. two_tables i j e x told stop s)
       tables_refusals (fault.Job e) stop = absurd stop
       tables_refusals fault.Unwritten stop = absurd stop
@@ -191,7 +191,7 @@ module _ (laws : Laws) (r : Shelved) (l : List ℕ) (names : List (List ℕ)) wh
       none_refused os stand count = tables_only (λ f. ⊥) (λ j x told (os', c, stand', count', at, stops).
           table_blocked laws r names cs g os c j (job.Outcomes x) stand (let b = slice_get_within cs j c at in omega (arith, b, count)) at (told j (omega arith)) stops)
 
-      pub tables_exact : (e : Fault) (s : Sides) → TablesStop r names cs g e → TellAllSides r l names → StandForSides r l names s → IsOutside e
+      pub tables_exact : (e : RunFault) (s : Sides) → TablesStop r names cs g e → TellAllSides r l names → StandForSides r l names s → IsOutside e
       tables_exact (fault.Program i e) s (os, c, stand, count, at, stops) told st =
           let same_cs = same s.circuits told.0.0 st.on.circuits in
           let same_g = once s.layout told.0.1 (subst (λ (ys : List Circuit). LayoutStands l (seen_on r l) (joined_circuit ys) s.layout) (sym same_cs) st.on.layout) in

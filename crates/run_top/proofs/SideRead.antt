@@ -19,8 +19,8 @@ use Rattle.job_read.specs.Stages.{LayoutStands}
 use Rattle.side_by_side.specs.declared.joining.Joined.{Joined}
 use Rattle.side_by_side.specs.Joined.{IsJoinOf, IsWithin, joined_circuit, sums_of}
 use Rattle.side_by_side.specs.Laws.{HaveLetters, LettersStay, ProductsAreAdded}
-use Rattle.run_top.specs.declared.fault.Fault.{Fault}
-use Rattle.run_top.specs.declared.fault.Fault.TheVariants as fault
+use Rattle.run_top.specs.declared.fault.RunFault.{RunFault}
+use Rattle.run_top.specs.declared.fault.RunFault.TheVariants as fault
 use Rattle.run_top.specs.Sides.{AreCircuits, AreOnLayout, Sides, StandForSides, TablesStand, first_fails, joined_job, outcomes_at}
 use Rattle.run_top.specs.SideFaults.{StopsAtSides, TellAllSides}
 use Rattle.run_top.specs.Told.{IsOutside}
@@ -41,7 +41,7 @@ all_lettered [] h = All-nil Lettered
 all_lettered (c ∷ cs) h = All-cons Lettered c cs (All-head IsCircuit c cs h).letters (all_lettered cs (All-tail IsCircuit c cs h))
 
 -- ---- why the whole call stops
-pub tables_end : (r : Shelved) (l : List ℕ) (names : List (List ℕ)) (cs : List Circuit) (g : Grid) (e : Fault) → AreOnLayout r l names cs g → TablesStop r names cs g e → StopsAtSides r l names e
+pub tables_end : (r : Shelved) (l : List ℕ) (names : List (List ℕ)) (cs : List Circuit) (g : Grid) (e : RunFault) → AreOnLayout r l names cs g → TablesStop r names cs g e → StopsAtSides r l names e
 tables_end r l names cs g (fault.Program i f) on stop = inr (cs, g, on, stop)
 tables_end r l names cs g (fault.Job f) on stop = absurd stop
 tables_end r l names cs g fault.Unwritten on stop = absurd stop
@@ -65,7 +65,7 @@ module _ (tells tells' : List ℕ → Option (List ℕ)) (before before' after :
   tables_on names cs g os stand = λ i c o a b.
       table_stands (seen_on (counted tells' before' after) (outcomes_at names i)) (seen_on (counted tells before after) (outcomes_at names i)) i c g o (part.told (outcomes_at names i)) (stand i c o a b)
 
-  pub tables_stop_on : (names : List (List ℕ)) (cs : List Circuit) (g : Grid) (e : Fault) → TablesStop (counted tells' before' after) names cs g e → TablesStop (counted tells before after) names cs g e
+  pub tables_stop_on : (names : List (List ℕ)) (cs : List Circuit) (g : Grid) (e : RunFault) → TablesStop (counted tells' before' after) names cs g e → TablesStop (counted tells before after) names cs g e
   tables_stop_on names cs g (fault.Program i f) (os, c, stand, count, at, stops) = (
     os,
     c,

@@ -6,14 +6,15 @@ use Rattle.patch_layout.specs.Grid.{Grid}
 use Rattle.outcome_table.specs.declared.Outcomes.{Outcomes}
 use Rattle.job_read.specs.Shelves.{Shelved, seen_on}
 use Rattle.job_read.specs.Stages.{CircuitStands}
-use Rattle.run_top.specs.declared.fault.Fault.{Fault}
+use Rattle.run_top.specs.declared.fault.RunFault.{RunFault}
 use Rattle.run_top.specs.Sides.{CircuitsStand, TableStands, TablesStand, circuit_at, outcomes_at}
-use Rattle.run_top.specs.Told.{EndsBy, IsOutside}
+use Rattle.run_top.specs.Told.{IsOutside}
+use Rattle.run_top.specs.inside.Told.{EndsBy}
 use Rattle.run_top.specs.inside.Reads.{AreTablesFor, CircuitsStop, IsTableOf, StopsOne, StopsTable, TablesStop}
 use Rattle.run_top.proofs.Lists.{each_next, pairs_next}
 use Rattle.run_top.proofs.Shifts.{IsPartOf, circuit_stands, circuit_stops, table_stands, table_stops}
 
-pub by_err : {A : Type 0} (P : Fault → Type 0) (end : Result A Fault) (e : Fault) → IsErrAnd end (λ x. x ≡ e) → P e → IfErr end P
+pub by_err : {A : Type 0} (P : RunFault → Type 0) (end : Result A RunFault) (e : RunFault) → IsErrAnd end (λ x. x ≡ e) → P e → IfErr end P
 by_err P (Ok a) e is h = tt
 by_err P (Err x) e is h = subst P (sym is) h
 
@@ -37,7 +38,7 @@ module _ (tells tells' : List ℕ → Option (List ℕ)) (before before' after :
       (circuit_stands (seen_on (counted tells' before' after) (circuit_at names (length cs))) (seen_on (counted tells before after) (circuit_at names (length cs))) c (part.told (circuit_at names (length cs)))
       (subst (λ (k : ℕ). CircuitStands (seen_on (counted tells' before' after) (circuit_at names k)) c) (sym count) last))
 
-  pub circuits_stopped : (names : List (List ℕ)) (cs : List Circuit) (i : ℕ) (e : Fault) → length cs ≡ i → 2 * i < length names → CircuitsStand (counted tells before before') names cs →
+  pub circuits_stopped : (names : List (List ℕ)) (cs : List Circuit) (i : ℕ) (e : RunFault) → length cs ≡ i → 2 * i < length names → CircuitsStand (counted tells before before') names cs →
       StopsOne (counted tells' before' after) names i e → CircuitsStop (counted tells before after) names e
   circuits_stopped names cs i e count below stand (f, is, stops) =
       subst (CircuitsStop (counted tells before after) names) (sym is)
@@ -52,7 +53,7 @@ module _ (tells tells' : List ℕ → Option (List ℕ)) (before before' after :
       (table_stands (seen_on (counted tells' before' after) (outcomes_at names (length os))) (seen_on (counted tells before after) (outcomes_at names (length os))) (length os) c g o (part.told (outcomes_at names (length os)))
       (subst (λ (k : ℕ). TableStands (seen_on (counted tells' before' after) (outcomes_at names k)) k c g o) (sym count) last))
 
-  pub tables_stopped : (names : List (List ℕ)) (cs : List Circuit) (g : Grid) (os : List Outcomes) (c : Circuit) (i : ℕ) (e : Fault) → length os ≡ i → slice_get cs i ≡ Some c →
+  pub tables_stopped : (names : List (List ℕ)) (cs : List Circuit) (g : Grid) (os : List Outcomes) (c : Circuit) (i : ℕ) (e : RunFault) → length os ≡ i → slice_get cs i ≡ Some c →
       TablesStand (counted tells before before') names cs g os → StopsTable (counted tells' before' after) names i c g e → TablesStop (counted tells before after) names cs g e
   tables_stopped names cs g os c i e count at stand (f, is, stops) =
       subst (TablesStop (counted tells before after) names cs g) (sym is)
@@ -62,6 +63,6 @@ pub next_fit : (cs : List Circuit) (os : List Outcomes) (c : Circuit) (o : Outco
 next_fit cs os c o i count at fit last =
     pairs_next (λ k x y. IsTableOf x y) cs os o c (subst (λ (k : ℕ). slice_get cs k ≡ Some c) (sym count) at) fit last
 
-pub by_ends : {A : Type 0} (f : Fault) (end : Result A Fault) (e : Fault) → IsErrAnd end (λ x. x ≡ e) → (e ≡ f) ⊎ IsOutside e → EndsBy f end
+pub by_ends : {A : Type 0} (f : RunFault) (end : Result A RunFault) (e : RunFault) → IsErrAnd end (λ x. x ≡ e) → (e ≡ f) ⊎ IsOutside e → EndsBy f end
 by_ends f (Ok a) e is h = absurd is
-by_ends f (Err x) e is h = subst (λ (y : Fault). (y ≡ f) ⊎ IsOutside y) (sym is) h
+by_ends f (Err x) e is h = subst (λ (y : RunFault). (y ≡ f) ⊎ IsOutside y) (sym is) h

@@ -7,8 +7,8 @@ use Rattle.job_read.specs.Jobs.{Because}
 use Rattle.job_read.specs.Made.{BigStops}
 use Rattle.job_read.specs.Shelves.{Shelved, job_on, OnJob}
 use Rattle.tool_words.specs.Commands.{Run, run, bits, big, side, run_words, IsRun}
-use Rattle.run_top.specs.declared.fault.Fault.{Fault}
-use Rattle.run_top.specs.declared.fault.Fault.TheVariants as fault
+use Rattle.run_top.specs.declared.fault.RunFault.{RunFault}
+use Rattle.run_top.specs.declared.fault.RunFault.TheVariants as fault
 use Rattle.run_top.specs.Faults.{status_of, fault_line}
 use Rattle.run_top.specs.Carried.{IsRunSchedule}
 use Rattle.run_top.specs.Big.{OnBig, summary}
@@ -40,7 +40,7 @@ StopsAtProgram r (side l k names) i f = StopsAtSides r l names (fault.Program i 
 StopsAtProgram r _ i f = ⊥
 
 -- the cause of each fault that comes before all writing; out of memory has none
-abbrev pub Stops : Shelved → Run → Fault → Type 0
+abbrev pub Stops : Shelved → Run → RunFault → Type 0
 Stops r t (fault.Job f) = StopsAtJob r t f
 Stops r t (fault.Program i f) = StopsAtProgram r t i f
 Stops r t fault.Unwritten = ⊥
@@ -49,17 +49,17 @@ Stops r t fault.Memory = Unit {0}
 -- ---- how a command ends
 
 -- the output took the whole text, or a first part of it and failed, or nothing
-abbrev pub Ends : Shelved → Writing → Run → Result (Unit {0}) Fault → Type 0
+abbrev pub Ends : Shelved → Writing → Run → Result (Unit {0}) RunFault → Type 0
 Ends r w t (Ok done) = (text : List ℕ) × Outputs r t text × Took w text
 Ends r w t (Err fault.Unwritten) = (text : List ℕ) × Outputs r t text × TookPart w text
 Ends r w t (Err f) = Stops r t f × Untouched w
 
-abbrev pub status_after : Result (Unit {0}) Fault → ℕ
+abbrev pub status_after : Result (Unit {0}) RunFault → ℕ
 status_after (Ok done) = 0
 status_after (Err f) = status_of f
 
 -- the line on `err`, and nothing where all was done
-abbrev pub SaysWhy : Writing → Run → Result (Unit {0}) Fault → Type 0
+abbrev pub SaysWhy : Writing → Run → Result (Unit {0}) RunFault → Type 0
 SaysWhy e t (Ok done) = Untouched e
 SaysWhy e t (Err f) = Said e (fault_line t f)
 
@@ -75,7 +75,7 @@ pub record CarriesOut (words : List (List ℕ)) (r : Shelved) (w e : Writing) (s
   pub command : Run
   pub ranged : IsRun command
   pub listed : words ≡ run_words command
-  pub end : Result (Unit {0}) Fault
+  pub end : Result (Unit {0}) RunFault
   pub ends : Ends r w command end
   pub ended : status ≡ status_after end
   pub said : SaysWhy e command end

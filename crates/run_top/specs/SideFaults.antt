@@ -11,8 +11,8 @@ use Rattle.job_read.specs.Jobs.{CircuitStops, LayoutStops}
 use Rattle.job_read.specs.Reading.{Failed, IsNamed, IsTold, Seen}
 use Rattle.job_read.specs.Shelves.{Shelved, seen_on}
 use Rattle.side_by_side.specs.Joined.{IsWithin, joined_circuit, sums_of}
-use Rattle.run_top.specs.declared.fault.Fault.{Fault}
-use Rattle.run_top.specs.declared.fault.Fault.TheVariants as fault
+use Rattle.run_top.specs.declared.fault.RunFault.{RunFault}
+use Rattle.run_top.specs.declared.fault.RunFault.TheVariants as fault
 use Rattle.run_top.specs.Sides.{AreCircuits, AreOnLayout, CircuitsStand, TableRefused, TablesStand, circuit_at, outcomes_at}
 
 -- ---- a text of one program
@@ -48,7 +48,7 @@ StopsAtJoined r l names f = (cs : List Circuit) × AreCircuits r names cs
     × (AreTooMany cs f ⊎ (IsWithin (sums_of cs) × LayoutStops l (seen_on r l) (joined_circuit cs) f))
 
 -- the first text that can't be read or is refused, or a limit that is passed; out of memory has no cause
-abbrev pub StopsAtSides : Shelved → List ℕ → List (List ℕ) → Fault → Type 0
+abbrev pub StopsAtSides : Shelved → List ℕ → List (List ℕ) → RunFault → Type 0
 StopsAtSides r l names (fault.Program i f) = StopsAtCircuit r names i f ⊎ StopsAtTable r l names i f
 StopsAtSides r l names (fault.Job f) = StopsAtJoined r l names f
 StopsAtSides r l names fault.Unwritten = ⊥
@@ -68,7 +68,7 @@ abbrev pub LayoutTold : Shelved → List ℕ → List (List ℕ) → Type 0
 LayoutTold r l names = CircuitsTold r names (length names) × (IsNamed l → IsTold (seen_on r l))
 
 -- the texts up to the one that a fault is of
-abbrev pub TellSides : Shelved → List ℕ → List (List ℕ) → Fault → Type 0
+abbrev pub TellSides : Shelved → List ℕ → List (List ℕ) → RunFault → Type 0
 TellSides r l names (fault.Program i (job.Circuit f)) = CircuitsTold r names (2 * i + 1)
 TellSides r l names (fault.Program i (job.Outcomes f)) = LayoutTold r l names × TablesTold r names (2 * i + 2)
 TellSides r l names (fault.Job (job.Circuit f)) = CircuitsTold r names (length names)

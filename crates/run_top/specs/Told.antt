@@ -1,5 +1,5 @@
 -- What told texts bring: where all are accepted, and where one is refused.
-use Rattle.std.specs.Prelude.{◌≡◌, ◌⊎◌, ℕ, ◌≤◌, List, MatchResult, Result, Ok, Err}
+use Rattle.std.specs.Prelude.{◌≡◌, ◌⊎◌, ℕ, ◌≤◌, List}
 use Rattle.fault_lines.specs.Sinks.{Writing, Said}
 use Rattle.job_read.specs.declared.Job.{Job}
 use Rattle.job_read.specs.Reading.{Reading}
@@ -7,15 +7,15 @@ use Rattle.job_read.specs.Jobs as job_faults
 use Rattle.job_read.specs.Jobs.{StandsForJob, TellsUpTo, TellsAll}
 use Rattle.job_read.specs.Shelves.{Shelved, job_on}
 use Rattle.tool_words.specs.Commands.{Run, run, bits, big, side}
-use Rattle.run_top.specs.declared.fault.Fault.{Fault}
-use Rattle.run_top.specs.declared.fault.Fault.TheVariants as fault
+use Rattle.run_top.specs.declared.fault.RunFault.{RunFault}
+use Rattle.run_top.specs.declared.fault.RunFault.TheVariants as fault
 use Rattle.run_top.specs.Faults.{status_of, fault_line}
 use Rattle.run_top.specs.Big.{OnBig}
 use Rattle.run_top.specs.Sides.{Sides, StandForSides}
 use Rattle.run_top.specs.SideFaults.{StopsAtSides, TellAllSides, TellSides}
 
 -- the shelf or the output failed, or memory ran out
-abbrev pub IsOutside : Fault → Type 0
+abbrev pub IsOutside : RunFault → Type 0
 IsOutside (fault.Job f) = job_faults.IsOutside f
 IsOutside (fault.Program i f) = job_faults.IsOutside f
 IsOutside fault.Unwritten = Unit {0}
@@ -34,33 +34,24 @@ Accepts r (bits c l o k) = AcceptsJob (job_on r c l o)
 Accepts r (big n k) = OnBig n (λ job. Unit {0})
 Accepts r (side l k names) = (s : Sides) × TellAllSides r l names × StandForSides r l names s
 
--- all was done, or the outside is the cause that it wasn't
-abbrev pub IsDone : Result (Unit {0}) Fault → Type 0
-IsDone (Ok done) = Unit {0}
-IsDone (Err f) = IsOutside f
-
 -- ---- refused texts
 
 -- a text of a job is told and refused, and those before it are told and accepted
-abbrev pub RefusesJob : Reading → Fault → Type 0
+abbrev pub RefusesJob : Reading → RunFault → Type 0
 RefusesJob j (fault.Job f) = TellsUpTo j f × job_faults.Refuses j f
 RefusesJob j _ = ⊥
 
 -- a text of programs side by side, or their joined circuit
-abbrev pub RefusesSides : Shelved → List ℕ → List (List ℕ) → Fault → Type 0
+abbrev pub RefusesSides : Shelved → List ℕ → List (List ℕ) → RunFault → Type 0
 RefusesSides r l names f = TellSides r l names f × StopsAtSides r l names f × (IsOutside f → ⊥)
 
 -- a text that the command reads is told and refused with this fault, and all before it are told and accepted
-abbrev pub Refuses : Shelved → Run → Fault → Type 0
+abbrev pub Refuses : Shelved → Run → RunFault → Type 0
 Refuses r (run c l o k) f = RefusesJob (job_on r c l o) f
 Refuses r (bits c l o k) f = RefusesJob (job_on r c l o) f
 Refuses r (big n k) f = ⊥
 Refuses r (side l k names) f = RefusesSides r l names f
 
--- it ended with this fault, or with one of the outside
-abbrev pub EndsBy : {A : Type 0} → Fault → Result A Fault → Type 0
-EndsBy f end = MatchResult end (λ a. ⊥) (λ e. (e ≡ f) ⊎ IsOutside e)
-
 -- the fault's status, and its line on `err`, or a status that the outside is the cause of: 7, 8 or 9
-abbrev pub AnswersBy : Writing → Run → Fault → ℕ → Type 0
+abbrev pub AnswersBy : Writing → Run → RunFault → ℕ → Type 0
 AnswersBy e t f status = ((status ≡ status_of f) × Said e (fault_line t f)) ⊎ (7 ≤ status)

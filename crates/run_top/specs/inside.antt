@@ -1,1 +1,3 @@
 pub mod Reads
+pub mod Carried
+pub mod Told

@@ -9,10 +9,11 @@ ghost use Rattle.tool_words.specs.Commands as words;
 ghost use Rattle.job_read.specs.Shelves.{Shelved};
 ghost use Rattle.run_top.specs.Big.{heading};
 ghost use Rattle.run_top.specs.Ends.{Ends};
-ghost use Rattle.run_top.specs.Told.{Accepts, IsDone};
+ghost use Rattle.run_top.specs.Told.{Accepts};
+ghost use Rattle.run_top.specs.inside.Told.{IsDone};
 
 use crate::carry::carry_out;
-use crate::fault::Fault;
+use crate::fault::RunFault;
 use board_write::write_board_bits;
 use job_read::make_job;
 use patch_base::{Memory, Sink, put_decimal};
@@ -28,7 +29,7 @@ pub fn run_big<T: Threads + Sync, O: Sink>(
     n: u32,
     k: u32,
     out: &mut O,
-) -> Result<(), Fault>
+) -> Result<(), RunFault>
     requires size { n ≤ 4000 }
     requires routers { AreRouters k }
     ensures out_counts { O.faults out.old ≤ O.faults out.new }

@@ -3,7 +3,7 @@
 ghost use Rattle.std.specs.Prelude.{◌≡◌, IfOk};
 ghost use Rattle.job_read.specs.Kept.{IsJob};
 ghost use Rattle.tool_words.specs.Commands.{AreRouters};
-ghost use Rattle.run_top.specs.Carried.{IsCarriedOut};
+ghost use Rattle.run_top.specs.inside.Carried.{IsCarriedOut};
 
 use crate::route::route;
 use board_core::Board;

@@ -9,7 +9,7 @@ use std::alloc::AllocFailed;
 
 /// Why a command ends before all of its output is written.
 #[derive(Clone, Copy, Debug, PartialEq, Eq)]
-pub enum Fault {
+pub enum RunFault {
     /// The circuit, the layout or the outcomes can't be read, or are refused.
     Job(JobFault),
     /// The same of the circuit or the outcomes of one of several programs.
@@ -20,49 +20,49 @@ pub enum Fault {
     Memory,
 }
 
-impl From<JobFault> for Fault {
+impl From<JobFault> for RunFault {
     ghost use Rattle.std.specs.Prelude.{◌≡◌};
-    ghost use Rattle.run_top.specs.declared.fault.Fault.TheVariants as fault;
+    ghost use Rattle.run_top.specs.declared.fault.RunFault.TheVariants as fault;
 
     ghost from_gives = { λ f e. e ≡ fault.Job f };
 
-    fn from(fault: JobFault) -> Fault {
-        Fault::Job(fault)
+    fn from(fault: JobFault) -> RunFault {
+        RunFault::Job(fault)
     }
 }
 
-impl From<WriteFault> for Fault {
+impl From<WriteFault> for RunFault {
     ghost use Rattle.std.specs.Prelude.{◌≡◌};
     ghost use Rattle.run_top.specs.Faults.{fault_of_write};
 
     ghost from_gives = { λ f e. e ≡ fault_of_write f };
 
-    fn from(fault: WriteFault) -> Fault {
+    fn from(fault: WriteFault) -> RunFault {
         match fault {
-            WriteFault::Memory => Fault::Memory,
-            WriteFault::Failed => Fault::Unwritten,
+            WriteFault::Memory => RunFault::Memory,
+            WriteFault::Failed => RunFault::Unwritten,
         }
     }
 }
 
-impl From<Memory> for Fault {
+impl From<Memory> for RunFault {
     ghost use Rattle.std.specs.Prelude.{◌≡◌};
-    ghost use Rattle.run_top.specs.declared.fault.Fault.TheVariants as fault;
+    ghost use Rattle.run_top.specs.declared.fault.RunFault.TheVariants as fault;
 
     ghost from_gives = { λ _ e. e ≡ fault.Memory };
 
-    fn from(_memory: Memory) -> Fault {
-        Fault::Memory
+    fn from(_memory: Memory) -> RunFault {
+        RunFault::Memory
     }
 }
 
-impl<T: Drop> From<AllocFailed<T>> for Fault {
+impl<T: Drop> From<AllocFailed<T>> for RunFault {
     ghost use Rattle.std.specs.Prelude.{◌≡◌};
-    ghost use Rattle.run_top.specs.declared.fault.Fault.TheVariants as fault;
+    ghost use Rattle.run_top.specs.declared.fault.RunFault.TheVariants as fault;
 
     ghost from_gives = { λ _ e. e ≡ fault.Memory };
 
-    fn from(_refused: AllocFailed<T>) -> Fault {
-        Fault::Memory
+    fn from(_refused: AllocFailed<T>) -> RunFault {
+        RunFault::Memory
     }
 }

@@ -12,5 +12,5 @@ mod side;
 mod sides;
 mod top;
 
-pub use fault::Fault;
+pub use fault::RunFault;
 pub use top::run_main;

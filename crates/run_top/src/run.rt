@@ -5,12 +5,13 @@ ghost use Rattle.fault_lines.specs.Sinks.{writing};
 ghost use Rattle.job_read.specs.Shelves.{shelved};
 ghost use Rattle.tool_words.specs.Commands as words;
 ghost use Rattle.tool_words.specs.Commands.{AreRouters};
-ghost use Rattle.run_top.specs.declared.fault.Fault.{Fault as Fault_of};
+ghost use Rattle.run_top.specs.declared.fault.RunFault.{RunFault as Fault_of};
 ghost use Rattle.run_top.specs.Ends.{Ends};
-ghost use Rattle.run_top.specs.Told.{Accepts, EndsBy, IsDone, Refuses};
+ghost use Rattle.run_top.specs.Told.{Accepts, Refuses};
+ghost use Rattle.run_top.specs.inside.Told.{EndsBy, IsDone};
 
 use crate::carry::carry_out;
-use crate::fault::Fault;
+use crate::fault::RunFault;
 use board_write::{law_complete_boards, write_board, write_board_bits};
 use job_read::read_job;
 use patch_base::{Shelf, Sink};
@@ -33,7 +34,7 @@ pub fn run<T: Threads + Sync, S: Shelf, O: Sink>(
     asked: Asked<'_>,
     shelf: &mut S,
     out: &mut O,
-) -> Result<(), Fault>
+) -> Result<(), RunFault>
     requires { AreRouters asked.k }
     ensures told { (n : List ℕ) → S.tells shelf.new n ≡ S.tells shelf.old n }
     ensures counts { (n : List ℕ) → S.faults shelf.old n ≤ S.faults shelf.new n }
@@ -67,7 +68,7 @@ pub fn run_bits<T: Threads + Sync, S: Shelf, O: Sink>(
     asked: Asked<'_>,
     shelf: &mut S,
     out: &mut O,
-) -> Result<(), Fault>
+) -> Result<(), RunFault>
     requires { AreRouters asked.k }
     ensures told { (n : List ℕ) → S.tells shelf.new n ≡ S.tells shelf.old n }
     ensures counts { (n : List ℕ) → S.faults shelf.old n ≤ S.faults shelf.new n }

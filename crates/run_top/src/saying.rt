@@ -6,7 +6,7 @@ ghost use Rattle.job_read.specs.Statuses.{job_line, job_status};
 ghost use Rattle.tool_words.specs.Commands.{run_of};
 ghost use Rattle.run_top.specs.Faults.{circuit_name, layout_name, outcomes_name, fault_line, status_of};
 
-use crate::fault::Fault;
+use crate::fault::RunFault;
 use crate::names::name_at;
 use fault_lines::{FaultLine, say_line};
 use job_read::{JobFault, say_job};
@@ -14,20 +14,20 @@ use patch_base::Sink;
 use tool_words::RunCommand;
 
 /// Writes the fault line of a command, and gives the status. A sink that fails changes no status.
-pub fn say<E: Sink>(err: &mut E, command: RunCommand<'_>, fault: Fault) -> u8
+pub fn say<E: Sink>(err: &mut E, command: RunCommand<'_>, fault: RunFault) -> u8
     ensures status { result ≡ status_of fault }
     ensures counts { E.faults err.old ≤ E.faults err.new }
     ensures said { Said (writing E.taken E.faults err.old err.new)
         (fault_line (run_of command.entry) fault) }
 {
     match fault {
-        Fault::Job(fault) => say_text(err, command, 0, fault),
-        Fault::Program { program, fault } => say_text(err, command, program, fault),
-        Fault::Unwritten => {
+        RunFault::Job(fault) => say_text(err, command, 0, fault),
+        RunFault::Program { program, fault } => say_text(err, command, program, fault),
+        RunFault::Unwritten => {
             say_line(err, FaultLine::Write);
             8
         }
-        Fault::Memory => {
+        RunFault::Memory => {
             say_line(err, FaultLine::Memory);
             9
         }

@@ -5,12 +5,13 @@ ghost use Rattle.fault_lines.specs.Sinks.{writing};
 ghost use Rattle.job_read.specs.Shelves.{shelved};
 ghost use Rattle.tool_words.specs.Commands as words;
 ghost use Rattle.tool_words.specs.Commands.{ArePairs, AreRouters};
-ghost use Rattle.run_top.specs.declared.fault.Fault.{Fault as Fault_of};
+ghost use Rattle.run_top.specs.declared.fault.RunFault.{RunFault as Fault_of};
 ghost use Rattle.run_top.specs.Ends.{Ends};
-ghost use Rattle.run_top.specs.Told.{Accepts, EndsBy, IsDone, Refuses};
+ghost use Rattle.run_top.specs.Told.{Accepts, Refuses};
+ghost use Rattle.run_top.specs.inside.Told.{EndsBy, IsDone};
 
 use crate::carry::carry_out;
-use crate::fault::Fault;
+use crate::fault::RunFault;
 use crate::sides::read_sides;
 use board_write::{law_complete_boards, write_board};
 use patch_base::{Shelf, Sink};
@@ -29,7 +30,7 @@ pub fn run_side<T: Threads + Sync, S: Shelf, O: Sink>(
     pairs: &[String],
     shelf: &mut S,
     out: &mut O,
-) -> Result<(), Fault>
+) -> Result<(), RunFault>
     requires routers { AreRouters k }
     requires pairs { ArePairs (map string_bytes pairs.now) }
     ensures told { (n : List ℕ) → S.tells shelf.new n ≡ S.tells shelf.old n }

@@ -9,13 +9,14 @@ ghost use Rattle.job_read.specs.Stages.{CircuitStands, factories_in};
 ghost use Rattle.job_read.specs.declared.fault.JobFault.{JobFault as JobFault_of};
 ghost use Rattle.tool_words.specs.Commands.{ArePairs};
 ghost use Rattle.side_by_side.specs.Joined.{IsJoinOf};
-ghost use Rattle.run_top.specs.declared.fault.Fault.{Fault as Fault_of};
+ghost use Rattle.run_top.specs.declared.fault.RunFault.{RunFault as Fault_of};
 ghost use Rattle.run_top.specs.Sides.{AreCircuits, Sides, StandForSides, TableStands, TablesStand, circuit_at, outcomes_at};
 ghost use Rattle.run_top.specs.SideFaults.{StopsAtSides, TellAllSides};
-ghost use Rattle.run_top.specs.Told.{EndsBy, IsOutside, RefusesSides};
+ghost use Rattle.run_top.specs.Told.{IsOutside, RefusesSides};
+ghost use Rattle.run_top.specs.inside.Told.{EndsBy};
 ghost use Rattle.run_top.specs.inside.Reads.{AreTablesFor, CircuitsStop, IsSideJob, IsTableOf, JoinStops, StopsOne, StopsTable, TablesStop};
 
-use crate::fault::Fault;
+use crate::fault::RunFault;
 use crate::names::name_at;
 use job_read::{Job, JobFault, Products, load_circuit, load_layout, load_outcomes};
 use outcome_table::Outcomes;
@@ -41,7 +42,7 @@ pub(crate) fn read_sides<S: Shelf>(
     layout: &str,
     pairs: &[String],
     shelf: &mut S,
-) -> Result<Job, Fault>
+) -> Result<Job, RunFault>
     requires { ArePairs (map string_bytes pairs.now) }
     ensures told { (n : List ℕ) → S.tells shelf.new n ≡ S.tells shelf.old n }
     ensures counts { (n : List ℕ) → S.faults shelf.old n ≤ S.faults shelf.new n }
@@ -83,7 +84,7 @@ fn load_circuits<S: Shelf>(
     alloc: Global,
     pairs: &[String],
     shelf: &mut S,
-) -> Result<Vec<Circuit>, Fault>
+) -> Result<Vec<Circuit>, RunFault>
     requires { ArePairs (map string_bytes pairs.now) }
     ensures told { (n : List ℕ) → S.tells shelf.new n ≡ S.tells shelf.old n }
     ensures counts { (n : List ℕ) → S.faults shelf.old n ≤ S.faults shelf.new n }
@@ -107,7 +108,7 @@ fn load_one<S: Shelf>(
     pairs: &[String],
     program: usize,
     shelf: &mut S,
-) -> Result<Circuit, Fault>
+) -> Result<Circuit, RunFault>
     requires { program < 8 }
     ensures told { (n : List ℕ) → S.tells shelf.new n ≡ S.tells shelf.old n }
     ensures counts { (n : List ℕ) → S.faults shelf.old n ≤ S.faults shelf.new n }
@@ -124,18 +125,18 @@ fn load_one<S: Shelf>(
 }
 
 // A fault of a text of a program.
-fn of_program(program: usize, fault: JobFault) -> Fault
+fn of_program(program: usize, fault: JobFault) -> RunFault
     requires { program < 8 }
-    ensures { result ≡ Fault.Program program fault }
+    ensures { result ≡ RunFault.Program program fault }
 {
-    Fault::Program {
+    RunFault::Program {
         program: program as u32,
         fault,
     }
 }
 
 // The circuits as one.
-fn join_all(alloc: Global, circuits: &[Circuit]) -> Result<Joined, Fault>
+fn join_all(alloc: Global, circuits: &[Circuit]) -> Result<Joined, RunFault>
     requires some { 1 ≤ length circuits.now }
     requires few { length circuits.now ≤ 8 }
     requires each { All WellFormed circuits.now }
@@ -145,11 +146,11 @@ fn join_all(alloc: Global, circuits: &[Circuit]) -> Result<Joined, Fault>
 {
     match join(alloc, circuits) {
         Ok(joined) => Ok(joined),
-        Err(JoinFault::TooMany { .. }) => Err(Fault::Job(JobFault::Circuit(CircuitFault::At {
+        Err(JoinFault::TooMany { .. }) => Err(RunFault::Job(JobFault::Circuit(CircuitFault::At {
             line: 0,
             kind: FaultKind::TooMany,
         }))),
-        Err(JoinFault::Memory) => Err(Fault::Memory),
+        Err(JoinFault::Memory) => Err(RunFault::Memory),
     }
 }
 
@@ -184,7 +185,7 @@ fn load_tables<S: Shelf>(
     circuits: &[Circuit],
     layout: &Layout,
     shelf: &mut S,
-) -> Result<Vec<Outcomes>, Fault>
+) -> Result<Vec<Outcomes>, RunFault>
     requires few { length circuits.now ≤ 8 }
     requires each { All WellFormed circuits.now }
     ensures told { (n : List ℕ) → S.tells shelf.new n ≡ S.tells shelf.old n }
@@ -215,7 +216,7 @@ fn load_table<S: Shelf>(
     circuit: &Circuit,
     known: &Layout,
     shelf: &mut S,
-) -> Result<Outcomes, Fault>
+) -> Result<Outcomes, RunFault>
     requires few { program < 8 }
     requires circuit { WellFormed circuit.now }
     ensures told { (n : List ℕ) → S.tells shelf.new n ≡ S.tells shelf.old n }

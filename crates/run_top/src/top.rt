@@ -5,12 +5,13 @@ ghost use Rattle.fault_lines.specs.Sinks.{Said, writing};
 ghost use Rattle.job_read.specs.Shelves.{shelved};
 ghost use Rattle.job_read.specs.Statuses.{IsDoneStatus};
 ghost use Rattle.tool_words.specs.Commands.{IsRun, Run, run_of, run_words};
-ghost use Rattle.run_top.specs.declared.fault.Fault.{Fault as Fault_of};
+ghost use Rattle.run_top.specs.declared.fault.RunFault.{RunFault as Fault_of};
 ghost use Rattle.run_top.specs.Ends.{CarriesOut, Ends, RefusesWords, Writes};
-ghost use Rattle.run_top.specs.Told.{Accepts, AnswersBy, EndsBy, IsDone, Refuses};
+ghost use Rattle.run_top.specs.Told.{Accepts, AnswersBy, Refuses};
+ghost use Rattle.run_top.specs.inside.Told.{EndsBy, IsDone};
 
 use crate::big::run_big;
-use crate::fault::Fault;
+use crate::fault::RunFault;
 use crate::run::{Asked, run, run_bits};
 use crate::saying::say;
 use crate::side::run_side;
@@ -84,7 +85,7 @@ fn carry_out<T: Threads + Sync, S: Shelf, O: Sink>(
     command: RunCommand<'_>,
     shelf: &mut S,
     out: &mut O,
-) -> Result<(), Fault>
+) -> Result<(), RunFault>
     requires { IsRun (run_of command) }
     ensures told { (n : List ℕ) → S.tells shelf.new n ≡ S.tells shelf.old n }
     ensures counts { (n : List ℕ) → S.faults shelf.old n ≤ S.faults shelf.new n }

@@ -3,7 +3,7 @@
 ghost use Rattle.std.specs.Prelude.{◌≡◌, true, [], ◌∷◌, IfOk};
 ghost use Rattle.source_model.specs.Circuits.{WellFormed, bits_in};
 ghost use Rattle.patch_layout.specs.Grid.{Open};
-ghost use Rattle.patch_layout.specs.Row.{wanted};
+ghost use Rattle.patch_layout.specs.Row.{demand};
 
 use board_core::{Board, order_of, pool_of};
 use patch_base::{Need, Used};
@@ -34,7 +34,7 @@ pub(crate) fn circuit(alloc: Global) -> Result<Circuit, Fail>
 
 /// One patch and one port in two rows.
 pub(crate) fn layout(alloc: Global) -> Result<Layout, Fail>
-    ensures { IfOk result (λ l. Open l (wanted (true ∷ []) true)) }
+    ensures { IfOk result (λ l. Open l (demand (true ∷ []) true)) }
 {
     let need = Need {
         qubits: 1,

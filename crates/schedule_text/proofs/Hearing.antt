@@ -17,7 +17,7 @@ use Rattle.board_core.specs.declared.Entry.{Entry}
 use Rattle.board_core.specs.History.{entries, delivered, delivery_in}
 use Rattle.board_core.specs.View.{claimed_axis, claimed_in}
 use Rattle.board_core.proofs.Places.{or_else, claimed-append, delivered-append}
-use Rattle.schedule_text.specs.Bits.{Hears, Tells, claimed_sign, raw_outcome, turned_round}
+use Rattle.schedule_text.specs.inside.Bits.{Hears, Tells, claimed_sign, raw_outcome, turned_round}
 
 -- a table that heard one thing more
 pub tells_more : (n : ℕ) (f g h : ℕ → Option Bool) (was now : List (Option Bool)) → Tells n f was → Hears g was now → ((p : ℕ) → h p ≡ option_or (f p) (g p)) → Tells n h now

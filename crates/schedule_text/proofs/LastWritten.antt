@@ -19,7 +19,7 @@ use Rattle.source_model.specs.declared.Given.{Given}
 use Rattle.source_model.specs.declared.Given.TheVariants.{Settled}
 use Rattle.source_model.specs.declared.Kind.{Kind}
 use Rattle.source_model.specs.declared.Kind.TheVariants as kind
-use Rattle.source_model.specs.Bits.{bit_behind, effective_outcomes, writes}
+use Rattle.source_model.specs.Bits.{bit_after_products, effective_outcomes, writes}
 use Rattle.source_model.specs.Circuits.{kinds, OutcomesOf}
 use Rattle.source_model.specs.Outcomes.{raw_of}
 use Rattle.source_model.specs.SourceRun.{Progress, axes_from, after, next_of, rest_of}
@@ -31,10 +31,10 @@ from_place (y ∷ ys) zero x e = let same : y ≡ x = cc in ap (λ z. z ∷ ys) 
 from_place (y ∷ ys) (suc p) x e = from_place ys p x e ∙ ap (λ n. x ∷ drop n (y ∷ ys)) (let next : suc (p + 1) ≡ suc p + 1 = omega arith in next)
 
 -- one product more
-pub behind_next : (ks : List Kind) (os : List Bool) (p : ℕ) (k : Kind) (o v w : Bool) (b : ℕ) → slice_get ks p ≡ Some k → slice_get os p ≡ Some o → w ≡ (if writes k b then o else v) → bit_behind w b (drop (p + 1) ks) (drop (p + 1) os) ≡ bit_behind v b (drop p ks) (drop p os)
+pub behind_next : (ks : List Kind) (os : List Bool) (p : ℕ) (k : Kind) (o v w : Bool) (b : ℕ) → slice_get ks p ≡ Some k → slice_get os p ≡ Some o → w ≡ (if writes k b then o else v) → bit_after_products w b (drop (p + 1) ks) (drop (p + 1) os) ≡ bit_after_products v b (drop p ks) (drop p os)
 behind_next ks os p k o v w b e f g =
-    ap (λ x. bit_behind x b (drop (p + 1) ks) (drop (p + 1) os)) g
-    ∙ sym (ap₂ (λ x y. bit_behind v b x y) (from_place ks p k e) (from_place os p o f))
+    ap (λ x. bit_after_products x b (drop (p + 1) ks) (drop (p + 1) os)) g
+    ∙ sym (ap₂ (λ x y. bit_after_products v b x y) (from_place ks p k e) (from_place os p o f))
 
 -- two lists of outcomes have each product's, and the same of those that are measured into the bit
 abbrev pub AgreeOn : ℕ → List Kind → List Bool → List Bool → Type 0
@@ -44,14 +44,14 @@ same_choice : (w : Bool) (o n v : Bool) → (w ≡ true → o ≡ n) → (if w t
 same_choice true o n v h = h refl
 same_choice false o n v h = refl
 
-pub behind_agrees : (b : ℕ) (v : Bool) (ks : List Kind) (os ns : List Bool) → AgreeOn b ks os ns → bit_behind v b ks os ≡ bit_behind v b ks ns
+pub behind_agrees : (b : ℕ) (v : Bool) (ks : List Kind) (os ns : List Bool) → AgreeOn b ks os ns → bit_after_products v b ks os ≡ bit_after_products v b ks ns
 behind_agrees b v [] os ns h = refl
 behind_agrees b v (k ∷ ks) [] ns h = let (o, n, e, f, g) = h 0 k refl in absurd (cc)
 behind_agrees b v (k ∷ ks) (o ∷ os) [] h = let (o', n, e, f, g) = h 0 k refl in absurd (cc)
 behind_agrees b v (k ∷ ks) (o ∷ os) (n ∷ ns) h =
     let (o', n', e, f, g) = h 0 k refl in
     let same : writes k b ≡ true → o ≡ n = λ w. let eq = g w in cc in
-    ap (λ x. bit_behind x b ks os) (same_choice (writes k b) o n v same)
+    ap (λ x. bit_after_products x b ks os) (same_choice (writes k b) o n v same)
     ∙ behind_agrees b (if writes k b then n else v) ks os ns (λ p k' e'. h (suc p) k' e')
 
 -- each product has an axis

@@ -7,7 +7,8 @@ use Rattle.patch_base.proofs.TextLemmas.{spaced-words, words-spaced, each_has_no
 use Rattle.board_core.specs.declared.Noted.{Noted}
 use Rattle.board_core.specs.declared.Entry.{Entry}
 use Rattle.schedule_text.specs.Text.{Version, one, two, entry_words, entry_line, Nameable, Prints}
-use Rattle.schedule_text.specs.Lines.{IsEntryLine, IsWorded, Starts}
+use Rattle.schedule_text.specs.Lines.{IsEntryLine}
+use Rattle.schedule_text.specs.inside.Lines.{IsWorded, Starts}
 use Rattle.schedule_text.proofs.OneText.{Free, AllFree, noted, line_words, line_is, some_line, free_line, line_one}
 
 no_space_in : (w : List ℕ) → Free 32 w → has_no_space w ≡ true

@@ -23,7 +23,7 @@ use Rattle.board_core.specs.Legal.{CompleteAt}
 use Rattle.board_core.specs.Headline.{IsOneLegalHistory}
 use Rattle.board_core.specs.View.{claimed_axis}
 use Rattle.board_core.proofs.Places.{claimed_place, some_of}
-use Rattle.schedule_text.specs.Bits.{Tells, claimed_sign, raw_outcome, turned_round}
+use Rattle.schedule_text.specs.inside.Bits.{Tells, claimed_sign, raw_outcome, turned_round}
 use Rattle.schedule_text.proofs.Hearing.{turned_at}
 use Rattle.schedule_text.proofs.LastWritten.{AgreeOn, axis_stands, outcome_stands, effective_at}
 

@@ -15,7 +15,8 @@ use Rattle.board_core.specs.declared.Noted.{Noted}
 use Rattle.board_core.specs.declared.Entry.{Entry}
 use Rattle.board_core.specs.declared.Entry.TheVariants.{Claim, Deliver, Release, Step, Settle}
 use Rattle.schedule_text.specs.Text.{digits, entry_words, text_of, bits_text, header_line, entry_line, bits_line, ended, two}
-use Rattle.schedule_text.specs.Pens.{spread, head_words, cells_in, cell_word, entry_text, register_text, IsWithin}
+use Rattle.schedule_text.specs.Pens.{IsWithin}
+use Rattle.schedule_text.specs.inside.Pens.{spread, head_words, cells_in, cell_word, entry_text, register_text}
 use Rattle.std.proofs.lemmas.Option.{slice_get_within, get_or_from_slice_get}
 
 -- one more of a list

@@ -5,7 +5,7 @@ use Rattle.patch_layout.specs.Case.{Ascending}
 use Rattle.std.proofs.lemmas.List.{append-nil, map-append}
 use Rattle.schedule_text.specs.Text.{IsNumber}
 use Rattle.schedule_text.proofs.OneText.{number_one}
-use Rattle.schedule_text.specs.Lines.{IsCells}
+use Rattle.schedule_text.specs.inside.Lines.{IsCells}
 
 -- each is at least n, and more than the one before
 abbrev pub Rising : ℕ → List ℕ → Type 0

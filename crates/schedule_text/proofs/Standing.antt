@@ -34,7 +34,7 @@ use Rattle.board_core.specs.declared.Entry.{Entry}
 use Rattle.board_core.specs.declared.Entry.TheVariants.{Claim, Deliver, Release, Step, Settle}
 use Rattle.board_core.specs.History.{History, entries, delivered, known, steps, steps_in, taken_states}
 use Rattle.board_core.specs.Laws.{ProductsOfLength}
-use Rattle.board_core.specs.Legal.{Job, Legal, Allowed, AxisOf, IsKind, TakesState}
+use Rattle.board_core.specs.Legal.{BoardJob, Legal, Allowed, AxisOf, IsKind, TakesState}
 use Rattle.board_core.specs.Limits.{WithinLimits, LegalIsShort}
 use Rattle.board_core.specs.Suits.{HaveLetters}
 use Rattle.schedule_text.specs.Text.{two, IsNumber, HasNumbers}
@@ -93,12 +93,12 @@ item_fits n s e = go s.kind
 items_fit : (n : ℕ) (products : List Static) → ProductsOfLength n products → AxesOfLength n (static_items products)
 items_fit n products fit = All-map (λ (i : Item). OfLength n (axis_of i)) item_of products (λ k d low. item_fits n (get_or products k d) (fit k d low))
 
-axis_fits : (j : Job) (h : History) (n p : ℕ) (axis : Signed) → ProductsOfLength n j.products → AxisOf j h p axis → OfLength n axis
+axis_fits : (j : BoardJob) (h : History) (n p : ℕ) (axis : Signed) → ProductsOfLength n j.products → AxisOf j h p axis → OfLength n axis
 axis_fits j h n p axis fit e =
     axes_fit n (static_items j.products) (items_fit n j.products fit) fresh (known j.products h) p axis (All-nil (λ (t : Turn). OfLength n t.axis)) e
 
 -- where a product has a letter other than I there is a qubit
-some_qubit : (j : Job) (n p : ℕ) (s : Static) → ProductsOfLength n j.products → HaveLetters j.products → slice_get j.products p ≡ Some s → 1 ≤ n
+some_qubit : (j : BoardJob) (n p : ℕ) (s : Static) → ProductsOfLength n j.products → HaveLetters j.products → slice_get j.products p ≡ Some s → 1 ≤ n
 some_qubit j n p s fit letters at = elim (cases_lt (letters p s at).0 (length s.axis.letters)) [
   | inl inside ↦ omega (arith, inside, long)
   | inr past ↦
@@ -110,7 +110,7 @@ some_qubit j n p s fit letters at = elim (cases_lt (letters p s at).0 (length s.
     long = subst (λ (x : Static). OfLength n x.axis) (get_or_from_slice_get j.products p s s at) (fit p s (slice_get_within j.products p s at))
 
 -- ---- the numbers of an entry
-product_number : (j : Job) (p : ℕ) (s : Static) → WithinLimits j → slice_get j.products p ≡ Some s → IsNumber p
+product_number : (j : BoardJob) (p : ℕ) (s : Static) → WithinLimits j → slice_get j.products p ≡ Some s → IsNumber p
 product_number j p s limits at = omega (arith, slice_get_within j.products p s at, limits.few_products)
 
 factory_number : (g : Grid) (axis : Signed) (f : ℕ) (cells : List ℕ) → Sound g → Fit g axis (Some f) cells → IsNumber f
@@ -138,7 +138,7 @@ record PortAndState (through state : Option ℕ) : Type 0 where
   taken : IfSome state IsNumber
   both : is_some through ≡ is_some state
 
-port_and_state : (j : Job) (h : History) (k : Kind) (axis : Signed) (through state : Option ℕ) (cells : List ℕ) → Sound j.grid → length h < 2 ^ 20 → Fit j.grid axis through cells → TakesState j h k through state → PortAndState through state
+port_and_state : (j : BoardJob) (h : History) (k : Kind) (axis : Signed) (through state : Option ℕ) (cells : List ℕ) → Sound j.grid → length h < 2 ^ 20 → Fit j.grid axis through cells → TakesState j h k through state → PortAndState through state
 port_and_state j h kind.Rotation axis through state cells sound short fit (f, s, port, is, first) =
     let made : s < length (makers_of j.fails (steps h)) = omega (arith, first_made 0 (makers_of j.fails (steps h)) (taken_states h) f s first) in
     let low : IsNumber s = omega (arith, made, made_le j.fails (steps h), steps_few h, short) in
@@ -185,7 +185,7 @@ Stands e = HasNumbers e × IsShaped two e
 abbrev Earlier : History → Type 0
 Earlier h = (p : ℕ) (g : Given) (m : ℕ) → slice_get h m ≡ Some (Deliver p g) → IsNumber p
 
-module _ (j : Job) (limits : WithinLimits j) (sound : Sound j.grid) (letters : HaveLetters j.products) where
+module _ (j : BoardJob) (limits : WithinLimits j) (sound : Sound j.grid) (letters : HaveLetters j.products) where
   allowed_stands : (h : History) (e : Entry) → Earlier h → length h < 2 ^ 20 → Allowed j h e → Stands e
   allowed_stands h (Claim p axis through state cells) earlier short allowed =
       let (s, at, takes) = allowed.product in
@@ -209,7 +209,7 @@ among_first [] (suc n) m x e = absurd (none-some x e)
 among_first (y ∷ xs) (suc n) zero x e = e
 among_first (y ∷ xs) (suc n) (suc m) x e = among_first xs n m x e
 
-earlier_in : (j : Job) (h : History) (n : ℕ) → WithinLimits j → Legal j h → Earlier (take n h)
+earlier_in : (j : BoardJob) (h : History) (n : ℕ) → WithinLimits j → Legal j h → Earlier (take n h)
 earlier_in j h n limits legal p g m at =
     let (claimed, undone, (s, there, is)) = legal m (Deliver p g) (among_first h n m (Deliver p g) at) in
     product_number j p s limits there

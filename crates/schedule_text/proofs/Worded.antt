@@ -8,7 +8,8 @@ use Rattle.pauli_product.specs.Spelling.{product_text}
 use Rattle.board_core.specs.declared.Entry.{Entry}
 use Rattle.board_core.specs.declared.Entry.TheVariants.{Claim, Deliver, Release, Step, Settle}
 use Rattle.schedule_text.specs.Text.{Version, one, two, optional, entry_words, IsNumber}
-use Rattle.schedule_text.specs.Lines.{IsWorded, Starts, version_of}
+use Rattle.schedule_text.specs.Lines.{version_of}
+use Rattle.schedule_text.specs.inside.Lines.{IsWorded, Starts}
 use Rattle.schedule_text.proofs.OneText.{number_one, optional_one, word, first}
 
 pub version_two : (n : ℕ) → (n ≡ 1 → ⊥) → version_of n ≡ two

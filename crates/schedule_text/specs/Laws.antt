@@ -8,7 +8,7 @@ use Rattle.patch_layout.specs.Grid.{Grid, Sound}
 use Rattle.magic_pool.specs.declared.Fail.{Fail}
 use Rattle.board_core.specs.declared.Noted.{Noted}
 use Rattle.board_core.specs.History.{entries}
-use Rattle.board_core.specs.Legal.{Job, Legal}
+use Rattle.board_core.specs.Legal.{BoardJob, Legal}
 use Rattle.board_core.specs.Limits.{WithinLimits}
 use Rattle.board_core.specs.Suits.{HaveLetters}
 use Rattle.schedule_text.specs.Text.{two, HasNumber}
@@ -26,5 +26,5 @@ OneSchedule =
 
 -- within the limits each entry of a legal history by workers 0 to 63 may stand in a text of version 2
 abbrev pub LegalEntriesStand : Type 0
-LegalEntriesStand = (j : Job) (h : List Noted) →
+LegalEntriesStand = (j : BoardJob) (h : List Noted) →
     WithinLimits j → Sound j.grid → HaveLetters j.products → Legal j (entries h) → All HasNumber h → All (StandsIn two) h

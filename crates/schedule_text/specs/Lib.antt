@@ -4,3 +4,4 @@ pub mod Laws
 pub mod Pens
 pub mod Lines
 pub mod Bits
+pub mod inside

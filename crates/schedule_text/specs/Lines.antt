@@ -1,5 +1,5 @@
 -- The lines that name an entry.
-use Rattle.std.specs.Prelude.{◌≡◌, ℕ, ◌≤◌, ◌==◌, if◌then◌else◌, List, ◌∷◌, length, map, decimal, is_some, All}
+use Rattle.std.specs.Prelude.{◌≡◌, ℕ, ◌≤◌, ◌==◌, if◌then◌else◌, List, length, is_some}
 use Rattle.pauli_product.specs.Signed.{Signed}
 use Rattle.source_model.specs.declared.Given.{Given}
 use Rattle.source_model.specs.declared.Given.TheVariants as given
@@ -7,7 +7,7 @@ use Rattle.patch_layout.specs.Case.{Ascending}
 use Rattle.board_core.specs.declared.Noted.{Noted}
 use Rattle.board_core.specs.declared.Entry.{Entry}
 use Rattle.board_core.specs.declared.Entry.TheVariants.{Claim, Deliver, Release, Step, Settle}
-use Rattle.schedule_text.specs.Text.{Version, one, two, entry_words, entry_line, IsNumber, HasNumbers, Prints}
+use Rattle.schedule_text.specs.Text.{Version, one, two, entry_line, Prints}
 
 -- the version of this number; a text has version 1 or 2
 abbrev pub version_of : ℕ → Version
@@ -45,28 +45,3 @@ pub record IsEntryLine (v : Version) (line : List ℕ) (n : Noted) : Type 0 wher
   pub prints : Prints v n
   pub shaped : IsShaped v n.entry
   pub text : line ≡ entry_line v n
-
--- the words are those of the entry, which may stand in a line of the version
-pub record IsWorded (v : Version) (words : List (List ℕ)) (e : Entry) : Type 0 where
-  pub numbers : HasNumbers e
-  pub shaped : IsShaped v e
-  pub are : words ≡ entry_words e
-
--- the words are those of the cells
-pub record IsCells (words : List (List ℕ)) (cells : List ℕ) : Type 0 where
-  pub numbers : All IsNumber cells
-  pub listed : IsListed cells
-  pub are : words ≡ map decimal cells
-
--- the words are those of the entry in both versions
-abbrev pub IsEntryOf : List (List ℕ) → Entry → Type 0
-IsEntryOf words e = (v : Version) → IsWorded v words e
-
--- the words are those of no entry in either version
-abbrev pub IsNoEntry : List (List ℕ) → Type 0
-IsNoEntry words = (v : Version) (e : Entry) → IsWorded v words e → ⊥
-
--- a line's words begin with the number of the worker in version 2, and the number is 0 in version 1
-abbrev pub Starts : Version → List (List ℕ) → ℕ → List (List ℕ) → Type 0
-Starts one words by rest = (by ≡ 0) × (words ≡ rest)
-Starts two words by rest = (by ≤ 63) × (words ≡ decimal by ∷ rest)

@@ -1,13 +1,13 @@
 //! The bits that the outcomes of a history leave.
 
 ghost use Rattle.std.specs.Prelude.{◌≡◌, ℕ, ◌*◌, ◌^◌, ◌<◌, ◌≤◌, ◌==◌, if◌then◌else◌, false, length, slice_get, slice_index_or, IfOk};
-ghost use Rattle.source_model.specs.Bits.{bit_behind};
+ghost use Rattle.source_model.specs.Bits.{bit_after_products};
 ghost use Rattle.source_model.specs.Circuits.{bits_in};
 ghost use Rattle.source_model.specs.Outcomes.{raw_of};
 ghost use Rattle.source_model.specs.Statics.{kinds_of};
 ghost use Rattle.board_core.specs.History.{entries, delivered, delivery_in};
 ghost use Rattle.board_core.specs.View.{claimed_axis, claimed_in};
-ghost use Rattle.schedule_text.specs.Bits.{Hears, Tells, claimed_sign, raw_outcome, turned_round};
+ghost use Rattle.schedule_text.specs.inside.Bits.{Hears, Tells, claimed_sign, raw_outcome, turned_round};
 
 use board_core::{Entry, Noted};
 use node_log::Log;
@@ -110,7 +110,7 @@ impl Said {
         ensures count { length bits.new ≡ length bits.old }
         ensures each { (b : ℕ) → b < length bits.old
             → slice_index_or bits.new b false
-            ≡ bit_behind (slice_index_or bits.old b false) b (kinds_of products.now)
+            ≡ bit_after_products (slice_index_or bits.old b false) b (kinds_of products.now)
             (turned_round self.now.signs.items self.now.raws.items) }
     {
         for (p, product) in products.iter().enumerate() {

@@ -7,7 +7,8 @@ ghost use Rattle.pauli_product.specs.Spelling.{product_text};
 ghost use Rattle.source_model.specs.declared.Given.{Given};
 ghost use Rattle.board_core.specs.declared.Entry.{Entry};
 ghost use Rattle.schedule_text.specs.Text.{optional, outcome_words, two, IsNumber};
-ghost use Rattle.schedule_text.specs.Lines.{IsDelivered, IsAxis, IsCells, IsWorded, IsEntryOf, IsNoEntry, Starts, version_of};
+ghost use Rattle.schedule_text.specs.Lines.{IsDelivered, IsAxis, version_of};
+ghost use Rattle.schedule_text.specs.inside.Lines.{IsCells, IsWorded, IsEntryOf, IsNoEntry, Starts};
 
 use board_core::Entry;
 use patch_base::{Memory, Words, bit, decimal};

@@ -7,7 +7,8 @@ ghost use Rattle.patch_base.specs.Texts.{digit};
 ghost use Rattle.pauli_product.specs.Spelling.{product_text, letter_text};
 ghost use Rattle.source_model.specs.Circuits.{WellFormed, bits_in};
 ghost use Rattle.schedule_text.specs.Text.{optional, outcome_words, digits, bit_in, bits_text};
-ghost use Rattle.schedule_text.specs.Pens.{IsWithin, spread, head_words, cells_in, cell_word, entry_text, register_text};
+ghost use Rattle.schedule_text.specs.Pens.{IsWithin};
+ghost use Rattle.schedule_text.specs.inside.Pens.{spread, head_words, cells_in, cell_word, entry_text, register_text};
 
 use board_core::{Entry, Noted};
 use node_log::Log;

@@ -23,7 +23,7 @@ use Rattle.source_model.specs.Statics.{AreOutcomesOf, kinds_of}
 use Rattle.source_model.proofs.Laws.{statics_keep_kinds}
 use Rattle.outcome_table.specs.declared.Outcomes.{Outcomes}
 use Rattle.board_core.specs.History.{History, delivered}
-use Rattle.board_core.specs.Legal.{Job, Legal, Complete, CompleteAt, IsKind}
+use Rattle.board_core.specs.Legal.{BoardJob, Legal, Complete, CompleteAt, IsKind}
 use Rattle.board_core.specs.Position.{Position}
 use Rattle.board_core.proofs.Laws.{deliveries_stand}
 use Rattle.finish_run.proofs.Pending.{outcome_at, as_many}
@@ -139,7 +139,7 @@ told_step h p (kind.Settle first size value) given.Settled is done kinds = undel
 told_step h p (kind.Settle first size value) (given.Rotation raw x) is done kinds = absurd is
 told_step h p (kind.Settle first size value) (given.Measure raw) is done kinds = absurd is
 
-delivered_kind : (j : Job) (h : History) (p : ℕ) (s : Static) (d : Given) → Legal j h → slice_get j.products p ≡ Some s → delivered h p ≡ Some d → IsKind s.kind d
+delivered_kind : (j : BoardJob) (h : History) (p : ℕ) (s : Static) (d : Given) → Legal j h → slice_get j.products p ≡ Some s → delivered h p ≡ Some d → IsKind s.kind d
 delivered_kind j h p s d legal e told =
     let (n, stands) = deliveries_stand h p d told in
     let found = (legal n _ stands).2 in
@@ -150,7 +150,7 @@ map_at f [] k x = refl
 map_at f (y ∷ xs) zero x = refl
 map_at f (y ∷ xs) (suc k) x = map_at f xs k x
 
-pub told_table : (j : Job) (h : History) (table : List Given) (told : List (Option Given)) → Legal j h → AreOutcomesOf table j.products → Complete j h table → Tells (length j.products) (λ p. delivered h p) told →
+pub told_table : (j : BoardJob) (h : History) (table : List Given) (told : List (Option Given)) → Legal j h → AreOutcomesOf table j.products → Complete j h table → Tells (length j.products) (λ p. delivered h p) told →
     map (λ (o : Option Given). unwrap_or o given.Settled) told ≡ table
 told_table j h table told legal are complete tells =
     let f : Option Given → Given = λ o. unwrap_or o given.Settled in

@@ -7,7 +7,7 @@ use Rattle.source_model.specs.Circuits.{RightKinds, WellFormed}
 use Rattle.source_model.specs.Statics.{statics}
 use Rattle.outcome_table.specs.declared.Outcomes.{Outcomes}
 use Rattle.finish_run.specs.Next.{Meeting}
-use Rattle.board_core.specs.Legal.{Job as BoardJob, Complete}
+use Rattle.board_core.specs.Legal.{BoardJob, Complete}
 use Rattle.board_core.specs.Position.{Position, past}
 use Rattle.finish_run.specs.Finished.{GoesOn, own_from, own_or_given}
 use Rattle.job_read.specs.declared.Job.{Job}
@@ -18,7 +18,7 @@ use Rattle.side_by_side.specs.declared.joining.Span.{Span}
 use Rattle.side_by_side.specs.Joined.{IsJoinOf, products_in}
 use Rattle.side_by_side.specs.Laws.{HaveLetters, LettersStay}
 use Rattle.side_by_side.specs.Programs.{AreTablesOf, IsProgram, Program, circuits, joined_outcomes}
-use Rattle.side_tests.specs.Two.{AreCarriedOut, IsOfTwo}
+use Rattle.side_tests.specs.inside.Two.{AreCarriedOut, IsOfTwo}
 
 abbrev Lettered : Circuit → Type 0
 Lettered c = HaveLetters c.items

@@ -3,7 +3,7 @@
 ghost use Rattle.std.specs.Prelude.{◌≤◌, IfOk, length};
 ghost use Rattle.source_model.specs.Circuits.{RightKinds, WellFormed};
 ghost use Rattle.job_read.specs.Kept.{IsCircuit, IsJob};
-ghost use Rattle.side_tests.specs.Two.{AreCarriedOut, IsOfTwo};
+ghost use Rattle.side_tests.specs.inside.Two.{AreCarriedOut, IsOfTwo};
 
 use crate::programs::{Texts, circuit};
 use board_core::Board;

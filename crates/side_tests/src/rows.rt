@@ -1,7 +1,7 @@
 //! Rotations and a measurement beside a measurement: the axes of each on its own qubits, and its bits.
 
 ghost use Rattle.std.specs.Prelude.{◌<◌};
-ghost use Rattle.side_tests.specs.Two.{AreCarriedOut};
+ghost use Rattle.side_tests.specs.inside.Two.{AreCarriedOut};
 
 use crate::carried::{Carried, carry_out};
 use crate::programs::{ONE, SIGNS, Texts, ZEROS};

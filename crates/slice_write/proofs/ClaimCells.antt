@@ -11,7 +11,7 @@ use Rattle.source_model.specs.Statics.{commuting}
 use Rattle.patch_layout.specs.Grid.{Grid}
 use Rattle.patch_layout.specs.declared.layout.Site.{Site}
 use Rattle.board_core.specs.declared.Entry.TheVariants.{Claim}
-use Rattle.board_core.specs.Legal.{Job, ClaimCell}
+use Rattle.board_core.specs.Legal.{BoardJob, ClaimCell}
 use Rattle.slice_write.specs.Slices.{Sliced, is_among, is_claim_cell, holds_site, is_identity, shares_cell, any_of, upto, commute_at, commuting_ones, clashes_with, slice_of, greatest_of}
 use Rattle.slice_write.specs.Laws.{ClaimsOfASliceAreApart, ClaimsOfASliceCommute}
 use Rattle.slice_write.proofs.Among.{or_true, contains_among, among_upto}
@@ -49,11 +49,11 @@ shares g a b s t state cs ds p c inside first second =
     any_at (λ x. is_claim_cell g b t ds x && is_claim_cell g a s cs x) (upto (length g.sites)) c (among_upto (length g.sites) c inside) (rw (second, first) refl)
 
 -- a claim's slice is past those of the entries that hold it back
-pub past_shared : (j : Job) (before : List Sliced) (q : ℕ) (b : Signed) (t state : Option ℕ) (ds : List ℕ) → greatest_of (shares_cell j.grid b t ds) before < slice_of j before (Claim q b t state ds)
+pub past_shared : (j : BoardJob) (before : List Sliced) (q : ℕ) (b : Signed) (t state : Option ℕ) (ds : List ℕ) → greatest_of (shares_cell j.grid b t ds) before < slice_of j before (Claim q b t state ds)
 unfolding slice_of
 past_shared j before q b t state ds = omega arith
 
-pub past_clash : (j : Job) (before : List Sliced) (q : ℕ) (b : Signed) (t state : Option ℕ) (ds : List ℕ) → greatest_of (clashes_with j.products q) before < slice_of j before (Claim q b t state ds)
+pub past_clash : (j : BoardJob) (before : List Sliced) (q : ℕ) (b : Signed) (t state : Option ℕ) (ds : List ℕ) → greatest_of (clashes_with j.products q) before < slice_of j before (Claim q b t state ds)
 unfolding slice_of
 past_clash j before q b t state ds = omega arith
 

@@ -10,7 +10,7 @@ use Rattle.source_model.specs.declared.Static.{Static}
 use Rattle.source_model.specs.Statics.{commuting}
 use Rattle.slice_write.specs.declared.placed.Placed.{Placed}
 use Rattle.slice_write.specs.Slices.{greatest, commute_at, commuting_ones}
-use Rattle.slice_write.specs.Clashes.{greatest_clash}
+use Rattle.slice_write.specs.inside.Clashes.{greatest_clash}
 use Rattle.slice_write.proofs.Greatest.{greatest-append}
 
 -- the slice of a placed product that doesn't commute with p

@@ -10,8 +10,8 @@ use Rattle.slice_write.specs.declared.marks.Mark.{Mark}
 use Rattle.slice_write.specs.declared.drawing.Drawing.{Drawing}
 use Rattle.slice_write.specs.Slices.{upto, is_among}
 use Rattle.slice_write.specs.Pictures.{aligned, shown_text, cell_text, row_end, piece, picture, nobody, tile_text}
-use Rattle.slice_write.specs.Marks.{mark_at, marked_by, with_mark, IsNarrow}
-use Rattle.slice_write.specs.Pages.{Draws}
+use Rattle.slice_write.specs.inside.Marks.{mark_at, marked_by, with_mark, IsNarrow}
+use Rattle.slice_write.specs.inside.Pages.{Draws}
 use Rattle.slice_write.proofs.Among.{among_append, or_true, or_false, among_here, upto_below}
 
 -- the numbers below n up to one of them, and the greater ones

@@ -8,19 +8,19 @@ use Rattle.std.proofs.lemmas.List.Edits.{length-insert, get_or-insert_below, get
 use Rattle.pauli_product.specs.Signed.{Signed}
 use Rattle.source_model.specs.declared.Static.{Static}
 use Rattle.patch_layout.specs.Grid.{Grid}
-use Rattle.magic_pool.specs.Recount.{steps_of}
+use Rattle.magic_pool.specs.Recount.{step_count}
 use Rattle.board_core.specs.declared.Entry.{Entry}
 use Rattle.board_core.specs.declared.Entry.TheVariants.{Claim, Settle}
 use Rattle.board_core.specs.History.{steps, steps_in, is_claim_of}
-use Rattle.board_core.specs.Legal.{Job}
+use Rattle.board_core.specs.Legal.{BoardJob}
 use Rattle.slice_write.specs.declared.placed.Placed.{Placed}
 use Rattle.slice_write.specs.declared.factory.Factory.{Factory}
 use Rattle.slice_write.specs.declared.ledger.Ledger.{Ledger}
 use Rattle.slice_write.specs.Slices.{Sliced, greatest, greatest_of, is_step_of, is_claim_with, is_among, is_claim_cell, holds_cell, clashes_with, commute_at, entries_of, made_in}
-use Rattle.slice_write.specs.Numbers.{raised, raised_if}
-use Rattle.slice_write.specs.Clashes.{greatest_clash, placed_at, PlacedAre, Inserts}
-use Rattle.slice_write.specs.Factories.{FactoryIs}
-use Rattle.slice_write.specs.Tables.{Keeps, NotesClaim, NotesSettle}
+use Rattle.slice_write.specs.inside.Numbers.{raised, raised_if}
+use Rattle.slice_write.specs.inside.Clashes.{greatest_clash, placed_at, PlacedAre, Inserts}
+use Rattle.slice_write.specs.inside.Factories.{FactoryIs}
+use Rattle.slice_write.specs.inside.Tables.{Keeps, NotesClaim, NotesSettle}
 use Rattle.slice_write.proofs.Greatest.{greatest-append, greatest_more, greatest_skip}
 use Rattle.slice_write.proofs.Clashing.{clash_insert}
 use Rattle.slice_write.proofs.Making.{entries_more, steps_more, made_same, made_at_quiet, own_quiet}
@@ -54,15 +54,15 @@ taken_long table None n = refl
 taken_long table (Some s) n = length-set table s (max n (get_or table s 0))
 
 -- a factory behind an entry that is no step of it
-factory_quiet : (j : Job) (done : List Sliced) (e : Entry) (n f : ℕ) (x : Factory) → steps_in e ≡ [] → is_step_of f e ≡ false → FactoryIs j done f x → FactoryIs j (done ++ (e, n) ∷ []) f x
+factory_quiet : (j : BoardJob) (done : List Sliced) (e : Entry) (n f : ℕ) (x : Factory) → steps_in e ≡ [] → is_step_of f e ≡ false → FactoryIs j done f x → FactoryIs j (done ++ (e, n) ∷ []) f x
 factory_quiet j done e n f x quiet other is = record {
-  steps = is.steps ∙ ap (steps_of f) (sym (ap steps (entries_more done e n) ∙ steps_more (entries_of done) e ∙ ap (λ l. steps (entries_of done) ++ l) quiet ∙ append-nil (steps (entries_of done))));
+  steps = is.steps ∙ ap (step_count f) (sym (ap steps (entries_more done e n) ∙ steps_more (entries_of done) e ∙ ap (λ l. steps (entries_of done) ++ l) quiet ∙ append-nil (steps (entries_of done))));
   last = is.last ∙ sym (greatest_skip (is_step_of f) done e n other);
   own = is.own ∙ sym (own_quiet j.fails done e n f quiet);
   runs = is.runs;
 }
 
-made_quiet : (j : Job) (done : List Sliced) (e : Entry) (n : ℕ) → steps_in e ≡ [] → made_in j.fails (entries_of (done ++ (e, n) ∷ [])) ≡ made_in j.fails (entries_of done)
+made_quiet : (j : BoardJob) (done : List Sliced) (e : Entry) (n : ℕ) → steps_in e ≡ [] → made_in j.fails (entries_of (done ++ (e, n) ∷ [])) ≡ made_in j.fails (entries_of done)
 made_quiet j done e n quiet = ap (made_in j.fails) (entries_more done e n) ∙ made_same j.fails (entries_of done) e quiet
 
 -- one product more among the placed
@@ -105,7 +105,7 @@ cell_more g done p axis through state region held n was now c same so_far le is 
     go true le = omega (arith, le refl)
     go false le = omega arith
 
-pub keeps_claim : (j : Job) (done : List Sliced) (was now : Ledger) (n p : ℕ) (axis : Signed) (through state : Option ℕ) (region : List ℕ)
+pub keeps_claim : (j : BoardJob) (done : List Sliced) (was now : Ledger) (n p : ℕ) (axis : Signed) (through state : Option ℕ) (region : List ℕ)
     → Keeps j done was → NotesClaim was now n p state → ((c : ℕ) → is_among was.held.items c ≡ is_claim_cell j.grid axis through region c)
     → p < length j.products → IfSome state (λ s. s < length was.taken.items) → ((c : ℕ) → is_among was.held.items c ≡ true → get_or was.cells.items c 0 ≤ n) → n ≤ length done + 1
     → Keeps j (done ++ (Claim p axis through state region, n) ∷ []) now
@@ -128,7 +128,7 @@ keeps_claim j done was now n p axis through state region k notes held known take
       clashes = λ q. clashes_more j.products was.placed.items now.placed.items done e n p q notes.placed refl (k.clashes q);
     }
 
-pub keeps_settle : (j : Job) (done : List Sliced) (was now : Ledger) (n p : ℕ) (flip : Bool)
+pub keeps_settle : (j : BoardJob) (done : List Sliced) (was now : Ledger) (n p : ℕ) (flip : Bool)
     → Keeps j done was → NotesSettle was now n p → p < length j.products → n ≤ length done + 1
     → Keeps j (done ++ (Settle p flip, n) ∷ []) now
 keeps_settle j done was now n p flip k notes known few =
@@ -150,7 +150,7 @@ keeps_settle j done was now n p flip k notes known few =
     }
 
 -- an entry that changes nothing
-pub keeps_quiet : (j : Job) (done : List Sliced) (t : Ledger) (e : Entry) (n : ℕ)
+pub keeps_quiet : (j : BoardJob) (done : List Sliced) (t : Ledger) (e : Entry) (n : ℕ)
     → Keeps j done t → steps_in e ≡ [] → ((c : ℕ) → holds_cell j.grid c e ≡ false) → ((q : ℕ) → is_claim_of q e ≡ false) → ((s : ℕ) → is_claim_with s e ≡ false)
     → ((f : ℕ) → is_step_of f e ≡ false) → ((q : ℕ) → clashes_with j.products q e ≡ false) → n ≤ length done + 1
     → Keeps j (done ++ (e, n) ∷ []) t

@@ -5,7 +5,7 @@ use Rattle.std.proofs.lemmas.Bool.{cases_lt, lt-ltb, le-ltb}
 use Rattle.std.proofs.lemmas.List.{map-append}
 use Rattle.std.proofs.lemmas.Grind.{flat_map-append}
 use Rattle.magic_pool.specs.declared.Fail.{Fail}
-use Rattle.magic_pool.specs.Recount.{makers_of, steps_of, is_made}
+use Rattle.magic_pool.specs.Recount.{makers_of, step_count, is_made}
 use Rattle.magic_pool.proofs.Readiness.{makers-push}
 use Rattle.board_core.specs.declared.Entry.{Entry}
 use Rattle.board_core.specs.declared.Entry.TheVariants.{Claim, Deliver, Release, Step, Settle}
@@ -34,7 +34,7 @@ pub made_same : (fails : List Fail) (h : History) (e : Entry) → steps_in e ≡
 made_same fails h e quiet = ap (makers_of fails) (steps_more h e ∙ ap (λ l. steps h ++ l) quiet ∙ append-nil (steps h))
 
 abbrev pub more_made : List Fail → History → ℕ → Bool
-more_made fails h f = is_made fails f (steps_of f (steps h) + 1)
+more_made fails h f = is_made fails f (step_count f (steps h) + 1)
 
 pub made_step : (fails : List Fail) (h : History) (f : ℕ) → made_in fails (h ++ Step f ∷ []) ≡ made_in fails h ++ (if more_made fails h f then f ∷ [] else [])
 made_step fails h f = ap (makers_of fails) (steps_more h (Step f)) ∙ makers-push fails (steps h) f

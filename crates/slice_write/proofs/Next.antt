@@ -9,14 +9,14 @@ use Rattle.patch_layout.specs.Grid.{Grid}
 use Rattle.board_core.specs.declared.Entry.{Entry}
 use Rattle.board_core.specs.declared.Entry.TheVariants.{Claim, Deliver, Release, Step, Settle}
 use Rattle.board_core.specs.History.{is_claim_of}
-use Rattle.board_core.specs.Legal.{Job}
+use Rattle.board_core.specs.Legal.{BoardJob}
 use Rattle.slice_write.specs.declared.factory.Factory.{Factory}
 use Rattle.slice_write.specs.declared.ledger.Ledger.{Ledger}
 use Rattle.slice_write.specs.Slices.{Sliced, greatest, greatest_of, is_among, is_claim_cell, shares_cell, clashes_with, state_made, entries_of, made_in, store_in, slice_of}
-use Rattle.slice_write.specs.Numbers.{greatest_at, made_by}
-use Rattle.slice_write.specs.Clashes.{greatest_clash}
-use Rattle.slice_write.specs.Factories.{IsReady, step_of}
-use Rattle.slice_write.specs.Tables.{job, Keeps, Fits, Awaits, IsNext, Notes, NotesClaim, NotesSettle, NotesStep}
+use Rattle.slice_write.specs.inside.Numbers.{greatest_at, made_by}
+use Rattle.slice_write.specs.inside.Clashes.{greatest_clash}
+use Rattle.slice_write.specs.inside.Factories.{IsReady, step_of}
+use Rattle.slice_write.specs.inside.Tables.{job, Keeps, Fits, Awaits, IsNext, Notes, NotesClaim, NotesSettle, NotesStep}
 use Rattle.slice_write.proofs.Greatest.{greatest_le, value_le}
 use Rattle.slice_write.proofs.Making.{made_at_le}
 use Rattle.slice_write.proofs.Shared.{shared_is}
@@ -27,7 +27,7 @@ abbrev pub with_held : Ledger → Ledger → Ledger
 with_held t u = record t { held = u.held }
 
 -- the cells in hand don't matter
-keeps_held : (j : Job) (done : List Sliced) (t u : Ledger) → Keeps j done t → u ≡ with_held t u → Keeps j done u
+keeps_held : (j : BoardJob) (done : List Sliced) (t u : Ledger) → Keeps j done t → u ≡ with_held t u → Keeps j done u
 keeps_held j done t u k same =
     let P : Ledger → Type 0 = λ v. Keeps j done v in
     subst P (sym same) (record {
@@ -46,21 +46,21 @@ keeps_held j done t u k same =
       clashes = k.clashes;
     })
 
-made_is : (j : Job) (done : List Sliced) (t : Ledger) (state : Option ℕ) → Keeps j done t → made_by t.made.items state ≡ state_made j.fails state done
+made_is : (j : BoardJob) (done : List Sliced) (t : Ledger) (state : Option ℕ) → Keeps j done t → made_by t.made.items state ≡ state_made j.fails state done
 made_is j done t None k = refl
 made_is j done t (Some s) k = k.made s
 
-state_made_le : (j : Job) (done : List Sliced) (state : Option ℕ) → state_made j.fails state done ≤ greatest (map (λ (e : Sliced). e.1) done)
+state_made_le : (j : BoardJob) (done : List Sliced) (state : Option ℕ) → state_made j.fails state done ≤ greatest (map (λ (e : Sliced). e.1) done)
 state_made_le j done None = omega arith
 state_made_le j done (Some s) = made_at_le j.fails s done
 
-claim_value : (j : Job) (done : List Sliced) (p : ℕ) (axis : Signed) (through state : Option ℕ) (region : List ℕ)
+claim_value : (j : BoardJob) (done : List Sliced) (p : ℕ) (axis : Signed) (through state : Option ℕ) (region : List ℕ)
     → slice_of j done (Claim p axis through state region) ≡ 1 + max (state_made j.fails state done) (max (greatest_of (shares_cell j.grid axis through region) done) (greatest_of (clashes_with j.products p) done))
 unfolding slice_of
 claim_value j done p axis through state region = refl
 
 -- the greatest of what a claim stands behind but for clashes
-floor_is : (j : Job) (done : List Sliced) (was mid : Ledger) (axis : Signed) (through state : Option ℕ) (region : List ℕ) (floor : ℕ) → Keeps j done was
+floor_is : (j : BoardJob) (done : List Sliced) (was mid : Ledger) (axis : Signed) (through state : Option ℕ) (region : List ℕ) (floor : ℕ) → Keeps j done was
     → ((c : ℕ) → is_among mid.held.items c ≡ is_claim_cell j.grid axis through region c) → All (λ c. c < length j.grid.sites) mid.held.items
     → floor ≡ max (greatest_at was.cells.items mid.held.items) (made_by was.made.items state)
     → floor ≡ max (greatest_of (shares_cell j.grid axis through region) done) (state_made j.fails state done)
@@ -68,7 +68,7 @@ floor_is j done was mid axis through state region floor k held inside is =
     is ∙ ap (λ n. max n (made_by was.made.items state)) (shared_is j.grid axis through region mid.held.items was.cells.items done held inside k.cells)
     ∙ ap (max (greatest_of (shares_cell j.grid axis through region) done)) (made_is j done was state k)
 
-pub claim_next : (j : Job) (done : List Sliced) (was mid now : Ledger) (p : ℕ) (axis : Signed) (through state : Option ℕ) (region : List ℕ) (floor n : ℕ)
+pub claim_next : (j : BoardJob) (done : List Sliced) (was mid now : Ledger) (p : ℕ) (axis : Signed) (through state : Option ℕ) (region : List ℕ) (floor n : ℕ)
     → Keeps j done was → Fits j done (Claim p axis through state region) → mid ≡ with_held was mid
     → ((c : ℕ) → is_among mid.held.items c ≡ is_claim_cell j.grid axis through region c) → All (λ c. c < length j.grid.sites) mid.held.items
     → floor ≡ max (greatest_at was.cells.items mid.held.items) (made_by was.made.items state)
@@ -90,15 +90,15 @@ claim_next j done was mid now p axis through state region floor n k (known, cell
     taken None made = tt
     taken (Some s) made = omega (arith, made, (keeps_held j done was mid k same).states_taken)
 
-settle_value : (j : Job) (done : List Sliced) (p : ℕ) (flip : Bool) → slice_of j done (Settle p flip) ≡ greatest_of (clashes_with j.products p) done
+settle_value : (j : BoardJob) (done : List Sliced) (p : ℕ) (flip : Bool) → slice_of j done (Settle p flip) ≡ greatest_of (clashes_with j.products p) done
 unfolding slice_of
 settle_value j done p flip = refl
 
-deliver_value : (j : Job) (done : List Sliced) (p : ℕ) (g : Given) → slice_of j done (Deliver p g) ≡ greatest_of (is_claim_of p) done
+deliver_value : (j : BoardJob) (done : List Sliced) (p : ℕ) (g : Given) → slice_of j done (Deliver p g) ≡ greatest_of (is_claim_of p) done
 unfolding slice_of
 deliver_value j done p g = refl
 
-release_value : (j : Job) (done : List Sliced) (p : ℕ) → slice_of j done (Release p) ≡ greatest_of (is_claim_of p) done
+release_value : (j : BoardJob) (done : List Sliced) (p : ℕ) → slice_of j done (Release p) ≡ greatest_of (is_claim_of p) done
 unfolding slice_of
 release_value j done p = refl
 

@@ -13,7 +13,7 @@ use Rattle.std.proofs.lemmas.List.{get_or_past, get_or_at, take_more, length-tak
 use Rattle.std.proofs.lemmas.Bool.{true≢false}
 use Rattle.std.proofs.lemmas.Fmt.{length-decimal-le}
 use Rattle.pauli_product.specs.declared.Letter.TheVariants as letter
-use Rattle.pauli_product.specs.Signed.{Signed}
+use Rattle.pauli_product.specs.Signed.{Signed, letter_at}
 use Rattle.patch_layout.specs.Grid.{IsAncilla, tile_of}
 use Rattle.patch_layout.specs.declared.layout.Site.{Site}
 use Rattle.patch_layout.specs.declared.layout.Site.TheVariants as site
@@ -21,10 +21,10 @@ use Rattle.board_core.specs.declared.Noted.{Noted}
 use Rattle.board_core.specs.declared.Entry.TheVariants.{Claim, Step}
 use Rattle.board_core.specs.History.{entries}
 use Rattle.slice_write.specs.declared.marks.Mark.{Mark}
-use Rattle.slice_write.specs.Slices.{Sliced, is_step_of, is_among, is_claim_cell, holds_site, is_identity, letter_at, any_of}
+use Rattle.slice_write.specs.Slices.{Sliced, is_step_of, is_among, is_claim_cell, holds_site, is_identity, any_of}
 use Rattle.slice_write.specs.Pictures.{in_slice, tile_text, holder, holder_in, is_a_claim}
-use Rattle.slice_write.specs.Marks.{mark, mark_at, marked_by, IsNarrow, HasRoom, FewFactories, paired}
-use Rattle.slice_write.specs.Pages.{PageIs, PagesAre}
+use Rattle.slice_write.specs.inside.Marks.{mark, mark_at, marked_by, IsNarrow, HasRoom, FewFactories, paired}
+use Rattle.slice_write.specs.inside.Pages.{PageIs, PagesAre}
 use Rattle.slice_write.proofs.Among.{or_true, or_false, or_assoc, all_among, among_all}
 
 pub page_push : (g : Grid) (xs : List Page) (x : Page) (m : ℕ) → length xs ≡ m → ((n : ℕ) (d : Page) → n < m → PageIs g [] (get_or xs n d)) → PageIs g [] x → (n : ℕ) (d : Page) → n < m + 1 → PageIs g [] (get_or (xs ++ x ∷ []) n d)

@@ -8,7 +8,7 @@ use Rattle.board_core.specs.History.{entries}
 use Rattle.board_core.specs.Legal.{Legal}
 use Rattle.board_core.specs.Limits.{AreFactories}
 use Rattle.board_core.specs.Position.{Position, IsLegal}
-use Rattle.slice_write.specs.Tables.{job}
+use Rattle.slice_write.specs.inside.Tables.{job}
 
 -- a board's history is a legal one of its products, grid and failing runs
 pub parts_legal : (b : Position) (products : List Static) (grid : Grid) (fails : List Fail) (history : List Noted) → IsLegal b → products ≡ b.job.products → grid ≡ b.job.grid → fails ≡ b.job.fails → history ≡ b.history → Legal (job products grid fails) (entries history)

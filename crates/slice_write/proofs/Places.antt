@@ -4,7 +4,7 @@ use Rattle.std.specs.Prelude.{if◌then◌else◌}
 use Rattle.std.proofs.lemmas.Bool.{cases_Bool, eqb-false}
 use Rattle.std.proofs.lemmas.List.{map-append, take_more}
 use Rattle.slice_write.specs.Slices.{greatest, is_among}
-use Rattle.slice_write.specs.Numbers.{greatest_at}
+use Rattle.slice_write.specs.inside.Numbers.{greatest_at}
 use Rattle.slice_write.proofs.Among.{among_append, or_true, or_false}
 use Rattle.slice_write.proofs.Greatest.{greatest-append}
 

@@ -5,7 +5,7 @@ use Rattle.std.proofs.lemmas.Bool.{cases_Bool}
 use Rattle.pauli_product.specs.Signed.{Signed}
 use Rattle.patch_layout.specs.Grid.{Grid}
 use Rattle.slice_write.specs.Slices.{Sliced, greatest, greatest_of, shares_cell, holds_cell, is_claim_cell, is_among, upto}
-use Rattle.slice_write.specs.Numbers.{greatest_at}
+use Rattle.slice_write.specs.inside.Numbers.{greatest_at}
 use Rattle.slice_write.proofs.Among.{among_upto, upto_below, among_all}
 use Rattle.slice_write.proofs.Greatest.{greatest_any, value_le, values_le}
 

@@ -6,11 +6,11 @@ use Rattle.std.proofs.lemmas.List.{get_or_past}
 use Rattle.std.proofs.lemmas.Option.{get_or_from_slice_get, same_Some}
 use Rattle.pauli_product.specs.declared.Letter.{Letter}
 use Rattle.pauli_product.specs.declared.Letter.TheVariants as letter
-use Rattle.pauli_product.specs.Signed.{Signed}
+use Rattle.pauli_product.specs.Signed.{Signed, letter_at}
 use Rattle.patch_layout.specs.Grid.{Grid, IsPatch, IsPort}
 use Rattle.patch_layout.specs.declared.layout.Site.{Site}
 use Rattle.patch_layout.specs.declared.layout.Site.TheVariants as site
-use Rattle.slice_write.specs.Slices.{is_among, is_claim_cell, holds_site, is_identity, is_port, letter_at}
+use Rattle.slice_write.specs.Slices.{is_among, is_claim_cell, holds_site, is_identity, is_port}
 use Rattle.slice_write.proofs.Among.{or_false, or_assoc}
 
 -- a patch of a qubit below n at a letter other than I

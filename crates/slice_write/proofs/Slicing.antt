@@ -5,17 +5,17 @@ use Rattle.std.proofs.lemmas.Option.{slice_get-map, same_Some}
 use Rattle.std.proofs.lemmas.List.{map-append}
 use Rattle.board_core.specs.declared.Entry.{Entry}
 use Rattle.board_core.specs.History.{History}
-use Rattle.board_core.specs.Legal.{Job}
+use Rattle.board_core.specs.Legal.{BoardJob}
 use Rattle.slice_write.specs.Slices.{Sliced, with_slice, sliced_after, sliced, slices_of, slice_of, entries_of}
 
-after_extends : (j : Job) (done : List Sliced) (es : History) → (rest : List Sliced) × (sliced_after j done es ≡ done ++ rest)
+after_extends : (j : BoardJob) (done : List Sliced) (es : History) → (rest : List Sliced) × (sliced_after j done es ≡ done ++ rest)
 after_extends j done [] = ([], sym (append-nil done))
 after_extends j done (e ∷ es) =
     let (rest, is) = after_extends j (done ++ with_slice j done e ∷ []) es in
     (with_slice j done e ∷ rest, is ∙ append_assoc done (with_slice j done e ∷ []) rest)
 
 -- the entry at a place has the slice that it has behind those before it
-after_split : (j : Job) (done : List Sliced) (es : History) (n : ℕ) (e : Entry) → slice_get es n ≡ Some e
+after_split : (j : BoardJob) (done : List Sliced) (es : History) (n : ℕ) (e : Entry) → slice_get es n ≡ Some e
     → (before : List Sliced) × (rest : List Sliced) × (sliced_after j done es ≡ before ++ with_slice j before e ∷ rest) × (length before ≡ length done + n)
 after_split j done [] n e at = cc
 after_split j done (x ∷ es) zero e at =
@@ -26,27 +26,27 @@ after_split j done (x ∷ es) (suc n) e at =
     let (before, rest, is, long) = after_split j (done ++ with_slice j done x ∷ []) es n e at in
     (before, rest, is, omega (arith, long, length-append done (with_slice j done x ∷ [])))
 
-pub sliced_split : (j : Job) (h : History) (n : ℕ) (e : Entry) → slice_get h n ≡ Some e
+pub sliced_split : (j : BoardJob) (h : History) (n : ℕ) (e : Entry) → slice_get h n ≡ Some e
     → (before : List Sliced) × (rest : List Sliced) × (sliced j h ≡ before ++ with_slice j before e ∷ rest) × (length before ≡ n)
 unfolding sliced
 sliced_split j h n e at =
     let (before, rest, is, long) = after_split j [] h n e at in
     (before, rest, is, omega (arith, long))
 
-after_append : (j : Job) (done : List Sliced) (es : History) (e : Entry) → sliced_after j done (es ++ e ∷ []) ≡ sliced_after j done es ++ with_slice j (sliced_after j done es) e ∷ []
+after_append : (j : BoardJob) (done : List Sliced) (es : History) (e : Entry) → sliced_after j done (es ++ e ∷ []) ≡ sliced_after j done es ++ with_slice j (sliced_after j done es) e ∷ []
 after_append j done [] e = refl
 after_append j done (x ∷ es) e = after_append j (done ++ with_slice j done x ∷ []) es e
 
 -- one entry more
-pub sliced_more : (j : Job) (h : History) (e : Entry) → sliced j (h ++ e ∷ []) ≡ sliced j h ++ (e, slice_of j (sliced j h) e) ∷ []
+pub sliced_more : (j : BoardJob) (h : History) (e : Entry) → sliced j (h ++ e ∷ []) ≡ sliced j h ++ (e, slice_of j (sliced j h) e) ∷ []
 unfolding sliced
 sliced_more j h e = after_append j [] h e
 
-pub sliced_none : (j : Job) → sliced j [] ≡ []
+pub sliced_none : (j : BoardJob) → sliced j [] ≡ []
 unfolding sliced
 sliced_none j = refl
 
-after_entries : (j : Job) (done : List Sliced) (es : History) → entries_of (sliced_after j done es) ≡ entries_of done ++ es
+after_entries : (j : BoardJob) (done : List Sliced) (es : History) → entries_of (sliced_after j done es) ≡ entries_of done ++ es
 after_entries j done [] = sym (append-nil (entries_of done))
 after_entries j done (e ∷ es) =
     after_entries j (done ++ with_slice j done e ∷ []) es
@@ -54,7 +54,7 @@ after_entries j done (e ∷ es) =
     ∙ append_assoc (entries_of done) (e ∷ []) es
 
 -- the entries are those of the history
-pub sliced_entries : (j : Job) (h : History) → entries_of (sliced j h) ≡ h
+pub sliced_entries : (j : BoardJob) (h : History) → entries_of (sliced j h) ≡ h
 unfolding sliced
 sliced_entries j h = after_entries j [] h
 
@@ -70,7 +70,7 @@ get_at (y ∷ xs) ys x zero long = absurd (omega (arith, long))
 get_at (y ∷ xs) ys x (suc n) long = get_at xs ys x n (omega (arith, long))
 
 -- the slice of the entry at a place, behind those before it
-pub slice_at : (j : Job) (h : History) (n slice : ℕ) (e : Entry) (before rest : List Sliced) → sliced j h ≡ before ++ with_slice j before e ∷ rest → length before ≡ n
+pub slice_at : (j : BoardJob) (h : History) (n slice : ℕ) (e : Entry) (before rest : List Sliced) → sliced j h ≡ before ++ with_slice j before e ∷ rest → length before ≡ n
     → slice_get (slices_of j h) n ≡ Some slice → slice ≡ slice_of j before e
 slice_at j h n slice e before rest is long at =
     let there : slice_get (sliced j h) n ≡ Some (with_slice j before e) = ap (λ l. slice_get l n) is ∙ get_at before rest (with_slice j before e) n long in
@@ -78,7 +78,7 @@ slice_at j h n slice e before rest is long at =
     same_Some slice (slice_of j before e) (sym at ∙ mapped)
 
 -- of two places the entry at the first stands, with its slice, before that at the second
-pub earlier : (j : Job) (h : History) (m n slice : ℕ) (d e : Entry) → m < n → slice_get h m ≡ Some d → slice_get (slices_of j h) m ≡ Some slice → slice_get h n ≡ Some e
+pub earlier : (j : BoardJob) (h : History) (m n slice : ℕ) (d e : Entry) → m < n → slice_get h m ≡ Some d → slice_get (slices_of j h) m ≡ Some slice → slice_get h n ≡ Some e
     → (before : List Sliced) × (rest : List Sliced) × (sliced j h ≡ before ++ with_slice j before e ∷ rest) × (length before ≡ n) × (slice_get before m ≡ Some (d, slice))
 earlier j h m n slice d e low at has later =
     let (front, back, split, size) = sliced_split j h m d at in

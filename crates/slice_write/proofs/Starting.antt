@@ -15,15 +15,15 @@ use Rattle.board_core.specs.declared.Noted.{Noted}
 use Rattle.board_core.specs.declared.Entry.{Entry}
 use Rattle.board_core.specs.declared.Entry.TheVariants.{Claim, Deliver, Release, Step, Settle}
 use Rattle.board_core.specs.History.{History, entries, steps, taken_states, is_claim_of}
-use Rattle.board_core.specs.Legal.{Job, Legal, Allowed, TakesState}
+use Rattle.board_core.specs.Legal.{BoardJob, Legal, Allowed, TakesState}
 use Rattle.board_core.specs.Limits.{AreFactories}
 use Rattle.slice_write.specs.declared.placed.Placed.{Placed}
 use Rattle.slice_write.specs.declared.factory.Factory.{Factory}
 use Rattle.slice_write.specs.declared.ledger.Ledger.{Ledger}
 use Rattle.slice_write.specs.Slices.{Sliced, is_step_of, is_claim_with, holds_cell, clashes_with, made_in, made_at, states_made_by, sliced, slices_of, slice_of}
-use Rattle.slice_write.specs.Clashes.{PlacedAre, greatest_clash}
-use Rattle.slice_write.specs.Factories.{FactoryIs, IsFresh}
-use Rattle.slice_write.specs.Tables.{job, Keeps, Fits, Awaits, IsNext}
+use Rattle.slice_write.specs.inside.Clashes.{PlacedAre, greatest_clash}
+use Rattle.slice_write.specs.inside.Factories.{FactoryIs, IsFresh}
+use Rattle.slice_write.specs.inside.Tables.{job, Keeps, Fits, Awaits, IsNext}
 use Rattle.slice_write.proofs.Greatest.{greatest_none}
 use Rattle.slice_write.proofs.Clashing.{clash_none}
 use Rattle.slice_write.proofs.Slicing.{sliced_more, sliced_none, sliced_entries, get_at}
@@ -47,7 +47,7 @@ no_own : (fails : List Fail) (f : ℕ) → states_made_by fails f [] ≡ []
 unfolding states_made_by
 no_own fails f = refl
 
-factory_new : (j : Job) (f : ℕ) (x : Factory) → IsFresh j.fails f x → FactoryIs j [] f x
+factory_new : (j : BoardJob) (f : ℕ) (x : Factory) → IsFresh j.fails f x → FactoryIs j [] f x
 factory_new j f x fresh = record {
   steps = fresh.steps;
   last = fresh.last ∙ sym (greatest_none (is_step_of f));
@@ -63,7 +63,7 @@ all_zeros (suc n) (suc k) = all_zeros n k
 zeros : (table : List ℕ) (n k : ℕ) → (let nil : ℕ = 0 in table ≡ replicate n nil) → get_or table k 0 ≡ 0
 zeros table n k is = ap (λ l. get_or l k 0) is ∙ all_zeros n k
 
-pub keeps_new : (j : Job) (t : Ledger) (n : ℕ) → t.cells.items ≡ replicate n 0 → n ≡ length j.grid.sites → t.claims.items ≡ replicate (length j.products) 0 → t.made.items ≡ [] → t.taken.items ≡ []
+pub keeps_new : (j : BoardJob) (t : Ledger) (n : ℕ) → t.cells.items ≡ replicate n 0 → n ≡ length j.grid.sites → t.claims.items ≡ replicate (length j.products) 0 → t.made.items ≡ [] → t.taken.items ≡ []
     → length t.factories.items ≡ 16 → ((f : ℕ) (d : Factory) → f < 16 → IsFresh j.fails f (get_or t.factories.items f d)) → t.placed.items ≡ [] → Keeps j [] t
 keeps_new j t n cells size claims made taken count fresh placed = record {
   bound = omega arith;
@@ -82,7 +82,7 @@ keeps_new j t n cells size claims made taken count fresh placed = record {
 }
 
 -- a state that a claim takes was made
-state_known : (j : Job) (h : History) (k : Kind) (through state : Option ℕ) → TakesState j h k through state → IfSome state (λ s. s < length (made_in j.fails h))
+state_known : (j : BoardJob) (h : History) (k : Kind) (through state : Option ℕ) → TakesState j h k through state → IfSome state (λ s. s < length (made_in j.fails h))
 state_known j h kind.Rotation through state (f, s, port, is, first) =
     let P : Option ℕ → Type 0 = λ o. IfSome o (λ t. t < length (made_in j.fails h)) in
     subst P (sym is) (omega (arith, first_made 0 (makers_of j.fails (steps h)) (taken_states h) f s first))
@@ -91,7 +91,7 @@ state_known j h (kind.Measure bit) through state (port, is) =
     subst P (sym is) tt
 state_known j h (kind.Settle first size value) through state takes = absurd takes
 
-fits_allowed : (j : Job) (h : History) (e : Entry) → AreFactories j.grid → Allowed j h e → Fits j (sliced j h) e
+fits_allowed : (j : BoardJob) (h : History) (e : Entry) → AreFactories j.grid → Allowed j h e → Fits j (sliced j h) e
 fits_allowed j h (Claim p axis through state cells) factories allowed =
     let (s, at, takes) = allowed.product in
     let P : History → Type 0 = λ k. IfSome state (λ t. t < length (made_in j.fails k)) in
@@ -107,7 +107,7 @@ entries_at seen rest x = map-append (λ (n : Noted). n.entry) seen (x ∷ rest)
 pub entries_push : (seen : List Noted) (x : Noted) → entries (seen ++ x ∷ []) ≡ entries seen ++ x.entry ∷ []
 entries_push seen x = map-append (λ (n : Noted). n.entry) seen (x ∷ [])
 
-allowed_at : (j : Job) (h seen rest : History) (e : Entry) → Legal j h → h ≡ seen ++ e ∷ rest → Allowed j seen e
+allowed_at : (j : BoardJob) (h seen rest : History) (e : Entry) → Legal j h → h ≡ seen ++ e ∷ rest → Allowed j seen e
 allowed_at j h seen rest e legal is =
     let P : History → Type 0 = λ k. Allowed j k e in
     subst P (ap (take (length seen)) is ∙ take_at seen (e ∷ rest) (length seen) refl) (legal (length seen) e (ap (λ k. slice_get k (length seen)) is ∙ get_at seen rest e (length seen) refl))
@@ -132,18 +132,18 @@ fits_next products grid fails history seen rest x factories legal whole =
     let is : entries history ≡ entries seen ++ x.entry ∷ entries rest = ap entries (sym whole) ∙ entries_at seen rest x in
     fits_allowed j (entries seen) x.entry factories (allowed_at j (entries history) (entries seen) (entries rest) x.entry legal is)
 
-pub keeps_next : (j : Job) (seen : List Noted) (x : Noted) (n : ℕ) (t : Ledger) → IsNext j (sliced j (entries seen)) x.entry n t → Keeps j (sliced j (entries (seen ++ x ∷ []))) t
+pub keeps_next : (j : BoardJob) (seen : List Noted) (x : Noted) (n : ℕ) (t : Ledger) → IsNext j (sliced j (entries seen)) x.entry n t → Keeps j (sliced j (entries (seen ++ x ∷ []))) t
 keeps_next j seen x n t next =
     let P : List Sliced → Type 0 = λ d. Keeps j d t in
     subst P (ap (λ m. sliced j (entries seen) ++ (x.entry, m) ∷ []) next.slice ∙ sym (sliced_more j (entries seen) x.entry) ∙ ap (sliced j) (sym (entries_push seen x))) next.keeps
 
-pub slices_next : (j : Job) (seen : List Noted) (x : Noted) (n : ℕ) (t : Ledger) (was now : List ℕ) → IsNext j (sliced j (entries seen)) x.entry n t → was ≡ slices_of j (entries seen) → now ≡ was ++ n ∷ [] → now ≡ slices_of j (entries (seen ++ x ∷ []))
+pub slices_next : (j : BoardJob) (seen : List Noted) (x : Noted) (n : ℕ) (t : Ledger) (was now : List ℕ) → IsNext j (sliced j (entries seen)) x.entry n t → was ≡ slices_of j (entries seen) → now ≡ was ++ n ∷ [] → now ≡ slices_of j (entries (seen ++ x ∷ []))
 slices_next j seen x n t was now next so_far is =
     is ∙ ap (λ l. l ++ n ∷ []) so_far ∙ ap (λ m. slices_of j (entries seen) ++ m ∷ []) next.slice
     ∙ sym (ap (λ h. slices_of j h) (entries_push seen x) ∙ ap (map (λ (e : Sliced). e.1)) (sliced_more j (entries seen) x.entry) ∙ map-append (λ (e : Sliced). e.1) (sliced j (entries seen)) ((x.entry, slice_of j (sliced j (entries seen)) x.entry) ∷ []))
 
-pub keeps_start : (j : Job) (t : Ledger) → Keeps j [] t → Keeps j (sliced j []) t
+pub keeps_start : (j : BoardJob) (t : Ledger) → Keeps j [] t → Keeps j (sliced j []) t
 keeps_start j t k = let P : List Sliced → Type 0 = λ d. Keeps j d t in subst P (sym (sliced_none j)) k
 
-pub slices_start : (j : Job) → slices_of j [] ≡ []
+pub slices_start : (j : BoardJob) → slices_of j [] ≡ []
 slices_start j = ap (map (λ (e : Sliced). e.1)) (sliced_none j)

@@ -6,19 +6,19 @@ use Rattle.std.specs.List.Sorted.{IsNonDecreasing}
 use Rattle.std.proofs.lemmas.Bool.{cases_Bool, cases_lt, eqb-false, lt-ltb, le-ltb}
 use Rattle.std.proofs.lemmas.List.{length_push, length-map, get_or_past, get_or_append_left, get_or_push}
 use Rattle.std.proofs.lemmas.List.Sums.{count_by-le-length}
-use Rattle.magic_pool.specs.Recount.{steps_of}
+use Rattle.magic_pool.specs.Recount.{step_count}
 use Rattle.magic_pool.proofs.Readiness.{steps_push}
 use Rattle.board_core.specs.declared.Entry.TheVariants.{Step}
 use Rattle.board_core.specs.History.{steps, is_claim_of}
-use Rattle.board_core.specs.Legal.{Job}
+use Rattle.board_core.specs.Legal.{BoardJob}
 use Rattle.slice_write.specs.declared.placed.Placed.{Placed}
 use Rattle.slice_write.specs.declared.factory.Factory.{Factory}
 use Rattle.slice_write.specs.declared.ledger.Ledger.{Ledger}
 use Rattle.slice_write.specs.Slices.{Sliced, greatest, greatest_of, is_step_of, is_claim_with, holds_cell, clashes_with, entries_of, made_in, made_at, states_made_by, room_made, store_in, slice_of}
-use Rattle.slice_write.specs.Numbers.{room_of}
-use Rattle.slice_write.specs.Clashes.{PlacedAre, greatest_clash}
-use Rattle.slice_write.specs.Factories.{FactoryIs, Steps, makes, step_of, IsReady}
-use Rattle.slice_write.specs.Tables.{Keeps, NotesStep}
+use Rattle.slice_write.specs.inside.Numbers.{room_of}
+use Rattle.slice_write.specs.inside.Clashes.{PlacedAre, greatest_clash}
+use Rattle.slice_write.specs.inside.Factories.{FactoryIs, Steps, makes, step_of, IsReady}
+use Rattle.slice_write.specs.inside.Tables.{Keeps, NotesStep}
 use Rattle.slice_write.proofs.Greatest.{greatest_more, greatest_skip, greatest_le}
 use Rattle.slice_write.proofs.Making.{entries_more, steps_more, steps_few, made_step, made_at_step, own_step, more_made}
 use Rattle.slice_write.proofs.Keeping.{bound_more}
@@ -55,15 +55,15 @@ long_step made n true = length_push made n
 long_step made n false = omega arith
 
 -- whether the next step makes a state
-makes_is : (j : Job) (done : List Sliced) (f : ℕ) (x : Factory) → FactoryIs j done f x → makes x ≡ more_made j.fails (entries_of done) f
+makes_is : (j : BoardJob) (done : List Sliced) (f : ℕ) (x : Factory) → FactoryIs j done f x → makes x ≡ more_made j.fails (entries_of done) f
 makes_is j done f x is =
     ap (λ n. n % 11 == 0 && not (list_any (λ r. r == n / 11 - 1) x.failing.items)) (ap (λ n. n + 1) is.steps)
-    ∙ ap (λ b. (steps_of f (steps (entries_of done)) + 1) % 11 == 0 && not b) (is.runs.listed ((steps_of f (steps (entries_of done)) + 1) / 11 - 1))
+    ∙ ap (λ b. (step_count f (steps (entries_of done)) + 1) % 11 == 0 && not b) (is.runs.listed ((step_count f (steps (entries_of done)) + 1) / 11 - 1))
 
 steps_now : (done : List Sliced) (f n : ℕ) → steps (entries_of (done ++ (Step f, n) ∷ [])) ≡ steps (entries_of done) ++ f ∷ []
 steps_now done f n = ap steps (entries_more done (Step f) n) ∙ steps_more (entries_of done) (Step f)
 
-made_now : (j : Job) (done : List Sliced) (f n : ℕ) → length (made_in j.fails (entries_of done ++ Step f ∷ [])) ≡ length (made_in j.fails (entries_of done)) + (if more_made j.fails (entries_of done) f then 1 else 0)
+made_now : (j : BoardJob) (done : List Sliced) (f n : ℕ) → length (made_in j.fails (entries_of done ++ Step f ∷ [])) ≡ length (made_in j.fails (entries_of done)) + (if more_made j.fails (entries_of done) f then 1 else 0)
 made_now j done f n = ap length (made_step j.fails (entries_of done) f) ∙ length-append (made_in j.fails (entries_of done)) _ ∙ go (more_made j.fails (entries_of done) f)
   where
     go : (b : Bool) → length (made_in j.fails (entries_of done)) + length (if b then f ∷ [] else []) ≡ length (made_in j.fails (entries_of done)) + (if b then 1 else 0)
@@ -71,10 +71,10 @@ made_now j done f n = ap length (made_step j.fails (entries_of done) f) ∙ leng
     go false = refl
 
 -- the factory that steps
-factory_here : (j : Job) (done : List Sliced) (f n : ℕ) (x y : Factory) → FactoryIs j done f x → Steps x y n (length (made_in j.fails (entries_of done))) → greatest_of (is_step_of f) done ≤ n
+factory_here : (j : BoardJob) (done : List Sliced) (f n : ℕ) (x y : Factory) → FactoryIs j done f x → Steps x y n (length (made_in j.fails (entries_of done))) → greatest_of (is_step_of f) done ≤ n
     → FactoryIs j (done ++ (Step f, n) ∷ []) f y
 factory_here j done f n x y is steps_on above = record {
-  steps = steps_on.steps ∙ ap (λ m. m + 1) is.steps ∙ sym (ap (steps_of f) (steps_now done f n) ∙ steps_push f f (steps (entries_of done)) ∙ ap (λ b. steps_of f (steps (entries_of done)) + (if b then 1 else 0)) (eq-eqb f f refl));
+  steps = steps_on.steps ∙ ap (λ m. m + 1) is.steps ∙ sym (ap (step_count f) (steps_now done f n) ∙ steps_push f f (steps (entries_of done)) ∙ ap (λ b. step_count f (steps (entries_of done)) + (if b then 1 else 0)) (eq-eqb f f refl));
   last = steps_on.last ∙ sym (greatest_more (is_step_of f) done (Step f) n ∙ ap (λ b. max (greatest_of (is_step_of f) done) (if b then n else 0)) (eq-eqb f f refl) ∙ omega arith);
   own = steps_on.own ∙ ap (λ b. if b then x.own.items ++ length (made_in j.fails (entries_of done)) ∷ [] else x.own.items) (makes_is j done f x is)
       ∙ go (more_made j.fails (entries_of done) f) x.own.items (states_made_by j.fails f done) is.own
@@ -91,11 +91,11 @@ factory_here j done f n x y is steps_on above = record {
     go false own all e = e ∙ sym (append-nil all)
 
 -- another factory
-factory_other : (j : Job) (done : List Sliced) (f g n : ℕ) (x : Factory) → (f ≡ g → ⊥) → FactoryIs j done g x → FactoryIs j (done ++ (Step f, n) ∷ []) g x
+factory_other : (j : BoardJob) (done : List Sliced) (f g n : ℕ) (x : Factory) → (f ≡ g → ⊥) → FactoryIs j done g x → FactoryIs j (done ++ (Step f, n) ∷ []) g x
 factory_other j done f g n x other is =
     let apart : (f == g) ≡ false = ne_eqb f g other in
     record {
-      steps = is.steps ∙ sym (ap (steps_of g) (steps_now done f n) ∙ steps_push g f (steps (entries_of done)) ∙ ap (λ b. steps_of g (steps (entries_of done)) + (if b then 1 else 0)) apart ∙ omega arith);
+      steps = is.steps ∙ sym (ap (step_count g) (steps_now done f n) ∙ steps_push g f (steps (entries_of done)) ∙ ap (λ b. step_count g (steps (entries_of done)) + (if b then 1 else 0)) apart ∙ omega arith);
       last = is.last ∙ sym (greatest_skip (is_step_of g) done (Step f) n apart);
       own = is.own ∙ sym (own_step j.fails done n g f ∙ ap (λ b. states_made_by j.fails g done ++ (if more_made j.fails (entries_of done) f then (if b then length (made_in j.fails (entries_of done)) ∷ [] else []) else [])) apart ∙ go (more_made j.fails (entries_of done) f));
       runs = is.runs;
@@ -109,7 +109,7 @@ pub first_of : {X : Type 0} (xs : List X) → 0 < length xs → X
 first_of [] some = absurd (omega arith)
 first_of (x ∷ xs) some = x
 
-pub keeps_step : (j : Job) (done : List Sliced) (was now : Ledger) (f n : ℕ) → Keeps j done was → ((d : Factory) → NotesStep was now f n (get_or was.factories.items f d))
+pub keeps_step : (j : BoardJob) (done : List Sliced) (was now : Ledger) (f n : ℕ) → Keeps j done was → ((d : Factory) → NotesStep was now f n (get_or was.factories.items f d))
     → f < 16 → greatest_of (is_step_of f) done ≤ n → n ≤ length done + 1 → Keeps j (done ++ (Step f, n) ∷ []) now
 keeps_step j done was now f n k steps_on low above few =
     let d : Factory = first_of was.factories.items (omega (arith, k.count)) in
@@ -159,12 +159,12 @@ room_is : (taken : List ℕ) (done : List Sliced) (own made : List ℕ) (store :
 room_is taken done own made store e known =
     ap (λ l. room_of taken l store) e ∙ ap (λ n. if nat_lt (length made) store then 0 else n) (known (get_or made (length made - store) 0))
 
-pub step_value : (j : Job) (done : List Sliced) (t : Ledger) (f : ℕ) (x : Factory) → Keeps j done t → FactoryIs j done f x → step_of t.taken.items x (store_in j.grid.sites f) ≡ slice_of j done (Step f)
+pub step_value : (j : BoardJob) (done : List Sliced) (t : Ledger) (f : ℕ) (x : Factory) → Keeps j done t → FactoryIs j done f x → step_of t.taken.items x (store_in j.grid.sites f) ≡ slice_of j done (Step f)
 unfolding slice_of
 step_value j done t f x k is =
     ap (λ l. 1 + max l (if x.steps % 11 == 0 then room_of t.taken.items x.own.items (store_in j.grid.sites f) else 0)) is.last
     ∙ ap (λ s. 1 + max (greatest_of (is_step_of f) done) (if s % 11 == 0 then room_of t.taken.items x.own.items (store_in j.grid.sites f) else 0)) is.steps
-    ∙ ap (λ r. 1 + max (greatest_of (is_step_of f) done) (if steps_of f (steps (entries_of done)) % 11 == 0 then r else 0)) (room_is t.taken.items done x.own.items (states_made_by j.fails f done) (store_in j.grid.sites f) is.own k.taken)
+    ∙ ap (λ r. 1 + max (greatest_of (is_step_of f) done) (if step_count f (steps (entries_of done)) % 11 == 0 then r else 0)) (room_is t.taken.items done x.own.items (states_made_by j.fails f done) (store_in j.grid.sites f) is.own k.taken)
 
 room_le : (store : ℕ) (made : List ℕ) (done : List Sliced) → room_made store made done ≤ greatest (map (λ (e : Sliced). e.1) done)
 room_le store made done = go (nat_lt (length made) store)
@@ -173,20 +173,20 @@ room_le store made done = go (nat_lt (length made) store)
     go true = omega arith
     go false = greatest_le (is_claim_with (get_or made (length made - store) 0)) done
 
-pub step_few : (j : Job) (done : List Sliced) (t : Ledger) (f : ℕ) → Keeps j done t → slice_of j done (Step f) ≤ length done + 1
+pub step_few : (j : BoardJob) (done : List Sliced) (t : Ledger) (f : ℕ) → Keeps j done t → slice_of j done (Step f) ≤ length done + 1
 unfolding slice_of
 step_few j done t f k =
-    omega (arith, greatest_le (is_step_of f) done, k.bound, go (steps_of f (steps (entries_of done)) % 11 == 0))
+    omega (arith, greatest_le (is_step_of f) done, k.bound, go (step_count f (steps (entries_of done)) % 11 == 0))
   where
     go : (b : Bool) → (if b then room_made (store_in j.grid.sites f) (states_made_by j.fails f done) done else 0) ≤ greatest (map (λ (e : Sliced). e.1) done)
     go true = room_le (store_in j.grid.sites f) (states_made_by j.fails f done) done
     go false = omega arith
 
-pub step_above : (j : Job) (done : List Sliced) (f : ℕ) → greatest_of (is_step_of f) done ≤ slice_of j done (Step f)
+pub step_above : (j : BoardJob) (done : List Sliced) (f : ℕ) → greatest_of (is_step_of f) done ≤ slice_of j done (Step f)
 unfolding slice_of
 step_above j done f = omega arith
 
-pub step_ready : (j : Job) (done : List Sliced) (t : Ledger) (f : ℕ) (x : Factory) → Keeps j done t → FactoryIs j done f x → length done + 1 < 2 ^ 32 → IsReady t.taken.items x (store_in j.grid.sites f)
+pub step_ready : (j : BoardJob) (done : List Sliced) (t : Ledger) (f : ℕ) (x : Factory) → Keeps j done t → FactoryIs j done f x → length done + 1 < 2 ^ 32 → IsReady t.taken.items x (store_in j.grid.sites f)
 step_ready j done t f x k is few = record {
   steps = omega (arith, is.steps, count_by-le-length (λ g. g == f) (steps (entries_of done)), steps_few (entries_of done), length-map done (λ (e : Sliced). e.0), few);
   slice = omega (arith, step_value j done t f x k is, step_few j done t f k, few);

@@ -10,8 +10,8 @@ use Rattle.board_core.specs.History.{History}
 use Rattle.slice_write.specs.declared.page.Page.{Page}
 use Rattle.slice_write.specs.Slices.{Sliced, is_step_of, any_of, upto, greatest}
 use Rattle.slice_write.specs.Pictures.{slice_line, slice_text, slices_text, stepping, picture, holder, in_slice}
-use Rattle.slice_write.specs.Marks.{mark_at}
-use Rattle.slice_write.specs.Pages.{PageIs, PagesAre, AreNarrow, stepping_by, page_text, page_at, pages_text}
+use Rattle.slice_write.specs.inside.Marks.{mark_at}
+use Rattle.slice_write.specs.inside.Pages.{PageIs, PagesAre, AreNarrow, stepping_by, page_text, page_at, pages_text}
 use Rattle.slice_write.proofs.Drawn.{picture_agree}
 use Rattle.slice_write.proofs.Pieces.{upto_suc}
 

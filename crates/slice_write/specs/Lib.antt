@@ -1,10 +1,5 @@
 pub mod Slices
 pub mod Rows
 pub mod Laws
-pub mod Numbers
-pub mod Clashes
-pub mod Factories
-pub mod Tables
 pub mod Pictures
-pub mod Marks
-pub mod Pages
+pub mod inside

@@ -8,7 +8,7 @@ use Rattle.source_model.specs.declared.Kind.TheVariants as kind
 use Rattle.patch_layout.specs.declared.layout.Site.TheVariants as site
 use Rattle.board_core.specs.declared.Entry.TheVariants.{Claim, Deliver, Release, Step}
 use Rattle.board_core.specs.History.{History}
-use Rattle.board_core.specs.Legal.{Job}
+use Rattle.board_core.specs.Legal.{BoardJob}
 use Rattle.slice_write.specs.Pictures.{holder, in_slice}
 use Rattle.slice_write.specs.Slices.{slices_of, upto, sliced, slice_of, greatest_of, shares_cell, is_claim_cell, commute_at, made_at, states_made_by}
 
@@ -18,7 +18,7 @@ plus l = record { sign = false; letters = l ∷ [] }
 abbrev pub minus : Letter → Signed
 minus l = record { sign = true; letters = l ∷ [] }
 
-abbrev pub three : Job
+abbrev pub three : BoardJob
 three =
     record {
       products = record { axis = plus Z; kind = kind.Rotation } ∷ record { axis = plus X; kind = kind.Rotation } ∷ record { axis = plus X; kind = kind.Measure 0 } ∷ [];

@@ -2,18 +2,18 @@
 use Rattle.std.specs.Prelude.{ℕ, zero, suc, Bool, true, false, ◌+◌, ◌-◌, ◌%◌, ◌==◌, ◌&&◌, ◌||◌, not, max, nat_lt, if◌then◌else◌, slice_get, slice_index_or, List, [], ◌∷◌, ◌++◌, map, filter, length, Option, Some, None}
 use Rattle.pauli_product.specs.declared.Letter.TheVariants as letter
 use Rattle.pauli_product.specs.declared.Letter.{Letter}
-use Rattle.pauli_product.specs.Signed.{Signed}
+use Rattle.pauli_product.specs.Signed.{Signed, letter_at}
 use Rattle.source_model.specs.declared.Static.{Static}
 use Rattle.source_model.specs.Statics.{commuting}
 use Rattle.patch_layout.specs.Grid.{Grid}
 use Rattle.patch_layout.specs.declared.layout.Site.{Site}
 use Rattle.patch_layout.specs.declared.layout.Site.TheVariants as site
 use Rattle.magic_pool.specs.declared.Fail.{Fail}
-use Rattle.magic_pool.specs.Recount.{makers_of, steps_of}
+use Rattle.magic_pool.specs.Recount.{makers_of, step_count}
 use Rattle.board_core.specs.declared.Entry.{Entry}
 use Rattle.board_core.specs.declared.Entry.TheVariants.{Claim, Deliver, Release, Step, Settle}
 use Rattle.board_core.specs.History.{History, steps, is_claim_of}
-use Rattle.board_core.specs.Legal.{Job}
+use Rattle.board_core.specs.Legal.{BoardJob}
 
 -- an entry that has its slice
 abbrev pub Sliced : Type 0
@@ -58,9 +58,6 @@ clashes_with products p (Deliver q g) = false
 clashes_with products p (Release q) = false
 clashes_with products p (Step g) = false
 clashes_with products p (Settle q flip) = not (commute_at products q p)
-
-abbrev pub letter_at : Signed → ℕ → Letter
-letter_at axis q = slice_index_or axis.letters q letter.I
 
 abbrev pub is_identity : Letter → Bool
 is_identity letter.I = true
@@ -151,13 +148,13 @@ abbrev pub room_made : ℕ → List ℕ → List Sliced → ℕ
 room_made store made done =
     if nat_lt (length made) store then 0 else greatest_of (is_claim_with (slice_index_or made (length made - store) 0)) done
 
-abbrev pub step_slice : Job → List Sliced → ℕ → ℕ
+abbrev pub step_slice : BoardJob → List Sliced → ℕ → ℕ
 step_slice j done f =
     1 + max (greatest_of (is_step_of f) done)
-    (if steps_of f (steps (entries_of done)) % 11 == 0 then room_made (store_in j.grid.sites f) (states_made_by j.fails f done) done else 0)
+    (if step_count f (steps (entries_of done)) % 11 == 0 then room_made (store_in j.grid.sites f) (states_made_by j.fails f done) done else 0)
 
 -- the slice of an entry after these
-unfoldable pub slice_of : Job → List Sliced → Entry → ℕ
+unfoldable pub slice_of : BoardJob → List Sliced → Entry → ℕ
 slice_of j done (Claim p axis through state cells) =
     1 + max (state_made j.fails state done) (max (greatest_of (shares_cell j.grid axis through cells) done) (greatest_of (clashes_with j.products p) done))
 slice_of j done (Deliver p g) = greatest_of (is_claim_of p) done
@@ -166,17 +163,17 @@ slice_of j done (Step f) = step_slice j done f
 slice_of j done (Settle p flip) = greatest_of (clashes_with j.products p) done
 
 -- an entry with its slice
-abbrev pub with_slice : Job → List Sliced → Entry → Sliced
+abbrev pub with_slice : BoardJob → List Sliced → Entry → Sliced
 with_slice j done e = (e, slice_of j done e)
 
-abbrev pub sliced_after : Job → List Sliced → History → List Sliced
+abbrev pub sliced_after : BoardJob → List Sliced → History → List Sliced
 sliced_after j done [] = done
 sliced_after j done (e ∷ es) = sliced_after j (done ++ with_slice j done e ∷ []) es
 
 -- the entries of a history with their slices
-unfoldable pub sliced : Job → History → List Sliced
+unfoldable pub sliced : BoardJob → History → List Sliced
 sliced j h = sliced_after j [] h
 
 -- the slice of each entry of a history
-abbrev pub slices_of : Job → History → List ℕ
+abbrev pub slices_of : BoardJob → History → List ℕ
 slices_of j h = map (λ e. e.1) (sliced j h)

@@ -4,7 +4,7 @@ ghost use Rattle.std.specs.Prelude.{◌≡◌, ◌<◌, ℕ, length, max, OnOk};
 ghost use Rattle.std.specs.List.Sorted.{IsNonDecreasingBy};
 ghost use Rattle.source_model.specs.Statics.{commuting, reads_from as reads_from_kind};
 ghost use Rattle.board_core.specs.Laws.{ProductsOfLength};
-ghost use Rattle.slice_write.specs.Clashes.{greatest_clash, PlacedAre, Inserts};
+ghost use Rattle.slice_write.specs.inside.Clashes.{greatest_clash, PlacedAre, Inserts};
 
 use crate::placed::Placed;
 use patch_base::Memory;

@@ -3,7 +3,7 @@
 ghost use Rattle.std.specs.Prelude.{◌≡◌, ◌+◌, ◌++◌, ◌<◌, ◌≤◌, ℕ, Option, All, take, drop, length, decimal, IfOk};
 ghost use Rattle.patch_layout.specs.Grid.{Grid};
 ghost use Rattle.slice_write.specs.Pictures.{aligned, picture, nobody};
-ghost use Rattle.slice_write.specs.Marks.{mark_at, with_mark, IsNarrow};
+ghost use Rattle.slice_write.specs.inside.Marks.{mark_at, with_mark, IsNarrow};
 
 use crate::marks::Mark;
 use crate::picture::put_piece;
@@ -42,7 +42,7 @@ fn write_at(bytes: &mut [u8], start: usize, six: &[u8; 6])
 }
 
 impl Drawing {
-    ghost use Rattle.slice_write.specs.Pages.{Draws};
+    ghost use Rattle.slice_write.specs.inside.Pages.{Draws};
 
     pub(crate) fn new(alloc: Global, layout: &Layout) -> Result<Drawing, Memory>
         ensures { IfOk result (Draws layout.now nobody) }

@@ -24,7 +24,7 @@ pub(crate) struct Factory {
 }
 
 impl Factory {
-    ghost use Rattle.slice_write.specs.Factories.{IsFresh, makes};
+    ghost use Rattle.slice_write.specs.inside.Factories.{IsFresh, makes};
 
     pub(crate) fn new(alloc: Global, fails: &[Fail], number: u32) -> Result<Factory, Memory>
         ensures { IfOk result (IsFresh fails.now number) }

@@ -3,9 +3,9 @@
 ghost use Rattle.std.specs.Prelude.{◌≡◌, ◌+◌, ◌-◌, ◌<◌, ◌^◌, ℕ, [], All, length, max, slice_index_or, IfOk, IfSome};
 ghost use Rattle.board_core.specs.Laws.{ProductsOfLength};
 ghost use Rattle.slice_write.specs.Slices.{is_among, is_claim_cell, store_in};
-ghost use Rattle.slice_write.specs.Numbers.{made_by, greatest_at as greatest_in};
-ghost use Rattle.slice_write.specs.Clashes.{greatest_clash, PlacedAre};
-ghost use Rattle.slice_write.specs.Factories.{IsFresh, IsReady, step_of};
+ghost use Rattle.slice_write.specs.inside.Numbers.{made_by, greatest_at as greatest_in};
+ghost use Rattle.slice_write.specs.inside.Clashes.{greatest_clash, PlacedAre};
+ghost use Rattle.slice_write.specs.inside.Factories.{IsFresh, IsReady, step_of};
 
 use crate::cells::held_cells;
 use crate::clashes::{latest_clash, place};
@@ -38,7 +38,7 @@ pub(crate) struct Ledger {
 }
 
 impl Ledger {
-    ghost use Rattle.slice_write.specs.Tables.{job, Keeps, Awaits, Notes, NotesClaim, NotesSettle, NotesStep};
+    ghost use Rattle.slice_write.specs.inside.Tables.{job, Keeps, Awaits, Notes, NotesClaim, NotesSettle, NotesStep};
 
     pub(crate) fn new(
         alloc: Global,

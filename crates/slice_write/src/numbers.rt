@@ -2,7 +2,7 @@
 
 ghost use Rattle.std.specs.Prelude.{◌≡◌, ◌<◌, ℕ, All, length, replicate, slice_index, if◌then◌else◌, IfOk};
 ghost use Rattle.slice_write.specs.Slices.{is_among};
-ghost use Rattle.slice_write.specs.Numbers.{greatest_at as greatest_in, raised, room_of};
+ghost use Rattle.slice_write.specs.inside.Numbers.{greatest_at as greatest_in, raised, room_of};
 
 use patch_base::Memory;
 use std::alloc::Global;

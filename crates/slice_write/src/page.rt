@@ -2,7 +2,7 @@
 
 ghost use Rattle.std.specs.Prelude.{◌≡◌, ◌∷◌, ◌++◌, [], map, OnOk};
 ghost use Rattle.board_core.specs.History.{History};
-ghost use Rattle.slice_write.specs.Marks.{mark as mark_of, HasRoom, FewFactories};
+ghost use Rattle.slice_write.specs.inside.Marks.{mark as mark_of, HasRoom, FewFactories};
 
 use crate::cells::held_cells;
 use crate::marks::Mark;
@@ -22,7 +22,7 @@ pub(crate) struct Page {
 }
 
 impl Page {
-    ghost use Rattle.slice_write.specs.Pages.{PageIs};
+    ghost use Rattle.slice_write.specs.inside.Pages.{PageIs};
     ghost use Rattle.patch_layout.specs.Grid.{Grid};
 
     pub(crate) fn new(alloc: Global) -> Page

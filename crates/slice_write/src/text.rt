@@ -7,8 +7,8 @@ ghost use Rattle.board_core.specs.History.{entries};
 ghost use Rattle.slice_write.specs.Slices.{greatest as greatest_of_all, upto};
 ghost use Rattle.patch_base.specs.Passes.{Passes};
 ghost use Rattle.slice_write.specs.Pictures.{slice_line};
-ghost use Rattle.slice_write.specs.Marks.{HasRoom, FewFactories, IsNarrow, paired};
-ghost use Rattle.slice_write.specs.Pages.{PagesAre, AreNarrow, IsDrawn, stepping_by, page_text, page_at, pages_text};
+ghost use Rattle.slice_write.specs.inside.Marks.{HasRoom, FewFactories, IsNarrow, paired};
+ghost use Rattle.slice_write.specs.inside.Pages.{PagesAre, AreNarrow, IsDrawn, stepping_by, page_text, page_at, pages_text};
 
 use crate::drawing::Drawing;
 use crate::page::Page;

@@ -4,7 +4,7 @@ use Rattle.pauli_product.specs.Bits.{number_of}
 use Rattle.pauli_product.specs.Corrections.{turn_if}
 use Rattle.pauli_product.specs.Pulls.{Turn, turn, half}
 use Rattle.pauli_product.specs.Signed.{Signed}
-use Rattle.source_model.specs.Kept.{Keeps}
+use Rattle.source_model.specs.inside.Kept.{Keeps}
 use Rattle.source_model.specs.Outcomes.{bit_of}
 use Rattle.source_model.specs.SourceRun.{Progress, fresh, flips, turned}
 

@@ -10,7 +10,7 @@ use Rattle.source_model.specs.declared.Given.TheVariants.{Settled}
 use Rattle.source_model.specs.Outcomes.{bit_of}
 use Rattle.source_model.specs.SourceRun.{Progress, fresh, after, flips, turned, axes_from, axes, progress_after, bit_after}
 use Rattle.source_model.specs.Circuits.{kinds, OutcomesOf, RightKinds}
-use Rattle.source_model.specs.Bits.{bit_behind, effective_outcomes, last_outcome_into}
+use Rattle.source_model.specs.Bits.{bit_after_products, effective_outcomes, last_outcome_into}
 
 -- a settled product writes no bit
 settled_writes : (b : Bool) (f : Progress) (axis : Signed) → (if b then turned (turn axis half ∷ []) f else f).writes ≡ f.writes
@@ -18,7 +18,7 @@ settled_writes true f axis = refl
 settled_writes false f axis = refl
 
 behind : (f : Progress) (items : List Item) (gs : List Given) (bit : ℕ) → OutcomesOf (kinds items) gs →
-    bit_of (progress_after f items gs).writes bit ≡ bit_behind (bit_of f.writes bit) bit (kinds items) (effective_outcomes (axes_from f items gs) gs)
+    bit_of (progress_after f items gs).writes bit ≡ bit_after_products (bit_of f.writes bit) bit (kinds items) (effective_outcomes (axes_from f items gs) gs)
 behind f [] gs bit h = refl
 behind f (item.Turn axis Quarter ∷ is) gs bit h = behind (after f (item.Turn axis Quarter) Settled) is gs bit h
 behind f (item.Turn axis Half ∷ is) gs bit h = behind (after f (item.Turn axis Half) Settled) is gs bit h
@@ -29,7 +29,7 @@ behind f (item.Measure axis b ∷ is) (g ∷ gs) bit h = behind (after f (item.M
 behind f (item.If axis first size value ∷ is) [] bit h = absurd h
 behind f (item.If axis first size value ∷ is) (g ∷ gs) bit h =
     behind (after f (item.If axis first size value) g) is gs bit h.1
-    ∙ ap (λ w. bit_behind (bit_of w bit) bit (kinds is) (effective_outcomes (axes_from (after f (item.If axis first size value) g) is gs) gs)) (settled_writes (flips f first size value) f axis)
+    ∙ ap (λ w. bit_after_products (bit_of w bit) bit (kinds is) (effective_outcomes (axes_from (after f (item.If axis first size value) g) is gs) gs)) (settled_writes (flips f first size value) f axis)
 
 pub bit_is_last_outcome : (items : List Item) (gs : List Given) (bit : ℕ) → RightKinds items gs → bit_after items gs bit ≡ last_outcome_into bit (kinds items) (effective_outcomes (axes items gs) gs)
 bit_is_last_outcome items gs bit h = behind fresh items gs bit h

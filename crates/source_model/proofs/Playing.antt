@@ -12,9 +12,9 @@ use Rattle.source_model.specs.declared.Item.{Item}
 use Rattle.source_model.specs.declared.Item.TheVariants as item
 use Rattle.source_model.specs.declared.Given.{Given}
 use Rattle.source_model.specs.declared.Given.TheVariants.{Settled}
-use Rattle.source_model.specs.Bits.{BitsAre}
+use Rattle.source_model.specs.inside.Bits.{BitsAre}
 use Rattle.source_model.specs.Circuits.{AxesOfLength}
-use Rattle.source_model.specs.Kept.{Keeps, Carries, product_axis}
+use Rattle.source_model.specs.inside.Kept.{Keeps, Carries, product_axis}
 use Rattle.source_model.specs.Outcomes.{raw_of, x_of, bit_of}
 use Rattle.source_model.specs.SourceRun.{Progress, fresh, turned, after, flips, axis_in, axis_of, is_product, next_of, rest_of, axes_from, axes, progress_after}
 

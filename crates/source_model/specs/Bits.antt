@@ -1,5 +1,5 @@
 -- The bits that effective outcomes leave.
-use Rattle.std.specs.Prelude.{◌≡◌, ℕ, Bool, false, if◌then◌else◌, List, [], ◌∷◌, map, slice_index_or}
+use Rattle.std.specs.Prelude.{ℕ, Bool, false, if◌then◌else◌, List, [], ◌∷◌, map}
 use Rattle.std.specs.List.{range_with_len}
 use Rattle.pauli_product.specs.Signed.{Signed}
 use Rattle.pauli_product.specs.Corrections.{effective}
@@ -17,10 +17,6 @@ use Rattle.source_model.specs.Statics.{uses_of}
 abbrev pub bits_after : List Register → List Item → List Given → List Bool
 bits_after registers items gs = map (bit_after items gs) (range_with_len 0 (bits_in registers))
 
--- a table of the bits after the run; a bit past the table is unwritten
-abbrev pub BitsAre : List Bool → List Item → List Given → Type 0
-BitsAre bits items gs = (b : ℕ) → slice_index_or bits b false ≡ bit_after items gs b
-
 -- the effective outcome of each product about its axis
 abbrev pub effective_outcomes : List Signed → List Given → List Bool
 effective_outcomes [] gs = []
@@ -32,11 +28,11 @@ abbrev pub writes : Kind → ℕ → Bool
 writes k bit = is_written (uses_of k).write bit
 
 -- a bit after products of these kinds and outcomes, with the value that it had before them
-abbrev pub bit_behind : Bool → ℕ → List Kind → List Bool → Bool
-bit_behind before bit [] os = before
-bit_behind before bit (k ∷ ks) [] = before
-bit_behind before bit (k ∷ ks) (o ∷ os) = bit_behind (if writes k bit then o else before) bit ks os
+abbrev pub bit_after_products : Bool → ℕ → List Kind → List Bool → Bool
+bit_after_products before bit [] os = before
+bit_after_products before bit (k ∷ ks) [] = before
+bit_after_products before bit (k ∷ ks) (o ∷ os) = bit_after_products (if writes k bit then o else before) bit ks os
 
 -- the outcome of the last product that measures into a bit, and 0 where there is none
 abbrev pub last_outcome_into : ℕ → List Kind → List Bool → Bool
-last_outcome_into bit ks os = bit_behind false bit ks os
+last_outcome_into bit ks os = bit_after_products false bit ks os

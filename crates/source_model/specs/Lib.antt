@@ -4,6 +4,6 @@ pub mod Statics
 pub mod Circuits
 pub mod Bits
 pub mod Used
-pub mod Kept
 pub mod Laws
 pub mod Rows
+pub mod inside

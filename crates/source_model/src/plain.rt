@@ -5,9 +5,10 @@ ghost use Rattle.std.specs.Prelude.{◌≡◌, ℕ, Bool, false, ◌+◌, ◌*�
 ghost use Rattle.pauli_product.specs.Bits.{number_of};
 ghost use Rattle.pauli_product.specs.Corrections.{effective, turn_if};
 ghost use Rattle.pauli_product.specs.Pulls.{TurnsOfLength, conj, pull};
-ghost use Rattle.source_model.specs.Bits.{BitsAre, bits_after};
+ghost use Rattle.source_model.specs.Bits.{bits_after};
+ghost use Rattle.source_model.specs.inside.Bits.{BitsAre};
 ghost use Rattle.source_model.specs.Circuits.{BitsBelow, RightKinds, WellFormed, bits_in};
-ghost use Rattle.source_model.specs.Kept.{Carries, clifford_angle, product_axis};
+ghost use Rattle.source_model.specs.inside.Kept.{Carries, clifford_angle, product_axis};
 ghost use Rattle.source_model.specs.Outcomes.{raw_of, x_of};
 ghost use Rattle.source_model.specs.SourceRun.{axes, axis_of, next_of};
 
@@ -136,7 +137,7 @@ struct Clifford {
 
 impl Model for Clifford {
     ghost use Rattle.pauli_product.specs.Pulls.{Turn, turn};
-    ghost use Rattle.source_model.specs.Kept.{clifford_angle};
+    ghost use Rattle.source_model.specs.inside.Kept.{clifford_angle};
 
     ghost Value = { Turn };
 

@@ -17,7 +17,8 @@ use Rattle.source_model.specs.Circuits.{AxesOfLength}
 use Rattle.source_model.specs.SourceRun.{axis_of}
 use Rattle.source_model.specs.Statics.{statics_from, statics}
 use Rattle.source_model.specs.Used.{acts_at, is_used, takes_region}
-use Rattle.static_products.specs.Pulled.{Answers, kind_of, turn_of}
+use Rattle.static_products.specs.Pulled.{kind_of}
+use Rattle.static_products.specs.inside.Pulled.{Answers, turn_of}
 
 one_turn : (n : ℕ) (turns : List Turn) (axis : Signed) (a : Angle) → TurnsOfLength n turns → OfLength n axis → TurnsOfLength n (turns ++ turn axis a ∷ [])
 one_turn n turns axis a h e = All-append (λ (t : Turn). OfLength n t.axis) turns (turn axis a ∷ []) h (All-cons (λ (t : Turn). OfLength n t.axis) (turn axis a) [] e (All-nil (λ (t : Turn). OfLength n t.axis)))

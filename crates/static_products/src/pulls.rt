@@ -8,7 +8,8 @@ ghost use Rattle.source_model.specs.declared.Given.{Given};
 ghost use Rattle.source_model.specs.Circuits.{AxesOfLength, WellFormed};
 ghost use Rattle.source_model.specs.SourceRun.{axes, axis_of, bit_after};
 ghost use Rattle.source_model.specs.Statics.{statics, static_items};
-ghost use Rattle.static_products.specs.Pulled.{Answers, kind_of, turn_of};
+ghost use Rattle.static_products.specs.Pulled.{kind_of};
+ghost use Rattle.static_products.specs.inside.Pulled.{Answers, turn_of};
 
 use frame_table::Frame;
 use patch_base::Memory;

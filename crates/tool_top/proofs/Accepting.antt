@@ -11,18 +11,18 @@ use Rattle.job_read.specs.Reading.{seen, IsNamed}
 use Rattle.job_read.specs.Stages.{LayoutStands}
 use Rattle.board_write.specs.declared.fault.WriteFault.{WriteFault}
 use Rattle.board_write.specs.declared.fault.WriteFault.TheVariants as write
-use Rattle.tool_top.specs.declared.fault.Fault.{Fault}
-use Rattle.tool_top.specs.declared.fault.Fault.TheVariants as fault
+use Rattle.tool_top.specs.declared.fault.ToolFault.{ToolFault}
+use Rattle.tool_top.specs.declared.fault.ToolFault.TheVariants as fault
 use Rattle.tool_top.specs.Schedules.{IsShort}
 use Rattle.tool_top.specs.Faults.{fault_of_write}
-use Rattle.tool_top.specs.Told.{IsDone, IsOutside}
+use Rattle.tool_top.specs.inside.Told.{IsDone, IsOutside}
 
 -- ---- errors of known kinds
-pub done_job : (end : Result (Unit {0}) Fault) (f : JobFault) → IsErrAnd end (λ e. e ≡ fault.Job f) → job_faults.IsOutside f → IsDone end
+pub done_job : (end : Result (Unit {0}) ToolFault) (f : JobFault) → IsErrAnd end (λ e. e ≡ fault.Job f) → job_faults.IsOutside f → IsDone end
 done_job (Ok done) f is h = absurd is
 done_job (Err e) f is h = subst IsOutside (sym is) h
 
-pub done_for : (end : Result (Unit {0}) Fault) (f : Fault) → IsErrAnd end (λ e. e ≡ f) → IsOutside f → IsDone end
+pub done_for : (end : Result (Unit {0}) ToolFault) (f : ToolFault) → IsErrAnd end (λ e. e ≡ f) → IsOutside f → IsDone end
 done_for (Ok done) f is h = absurd is
 done_for (Err e) f is h = subst IsOutside (sym is) h
 
@@ -30,7 +30,7 @@ is_outside : (f : WriteFault) → IsOutside (fault_of_write f)
 is_outside write.Memory = tt
 is_outside write.Failed = tt
 
-pub done_write : (end : Result (Unit {0}) Fault) (f : WriteFault) → IsErrAnd end (λ e. e ≡ fault_of_write f) → IsDone end
+pub done_write : (end : Result (Unit {0}) ToolFault) (f : WriteFault) → IsErrAnd end (λ e. e ≡ fault_of_write f) → IsDone end
 done_write end f is = done_for end (fault_of_write f) is (is_outside f)
 
 -- ---- a later state of the shelf
@@ -56,6 +56,6 @@ read_whole P (Some text) told' bytes some same read (short, p) =
     let as_read : bytes ≡ take (67108864 + 1) text = subst (λ (t : Option (List ℕ)). ReadAs t bytes) same read in
     subst (Reads P) (sym (as_read ∙ take_all (67108864 + 1) text (omega arith))) (short, p)
 
-pub outside_err : {A : Type 0} (r : Result A Fault) (f : JobFault) → IsErrAnd r (λ e. e ≡ fault.Job f) → job_faults.IsOutside f → IfErr r IsOutside
+pub outside_err : {A : Type 0} (r : Result A ToolFault) (f : JobFault) → IsErrAnd r (λ e. e ≡ fault.Job f) → job_faults.IsOutside f → IfErr r IsOutside
 outside_err (Ok a) f is h = tt
 outside_err (Err e) f is h = subst IsOutside (sym is) h

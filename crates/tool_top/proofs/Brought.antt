@@ -13,7 +13,7 @@ use Rattle.board_core.specs.declared.Noted.{Noted}
 use Rattle.board_core.specs.declared.Entry.{Entry}
 use Rattle.board_core.specs.declared.Entry.TheVariants.{Claim}
 use Rattle.board_core.specs.History.{History, entries, done_place}
-use Rattle.board_core.specs.Legal.{Job as BoardJob, Complete}
+use Rattle.board_core.specs.Legal.{BoardJob, Complete}
 use Rattle.board_core.specs.Position.{Position, past, note, IsLegal}
 use Rattle.schedule_text.specs.Text.{HasNumber}
 use Rattle.schedule_text.specs.Written.{AllBy}
@@ -27,7 +27,7 @@ use Rattle.board_write.specs.Boards.{IsComplete, schedule_of}
 use Rattle.board_write.specs.Laws.{CompleteBoardsAreSchedules}
 use Rattle.tool_top.specs.Serial.{ClaimsAscend, MeetsBehind, RegionsMeet, IsScheduleBy}
 use Rattle.tool_top.specs.Schedules.{asked_of}
-use Rattle.tool_top.specs.Carried.{IsBroughtToEnd}
+use Rattle.tool_top.specs.inside.Carried.{IsBroughtToEnd}
 use Rattle.tool_top.proofs.Claims.{claims_ascend}
 
 -- entries that pass 0 made, without its number

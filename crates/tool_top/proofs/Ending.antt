@@ -10,8 +10,8 @@ use Rattle.job_read.specs.Reading.{reading}
 use Rattle.job_read.specs.Jobs.{StandsForJob}
 use Rattle.job_read.specs.Shelves.{Shelved}
 use Rattle.tool_words.specs.Commands.{Tool}
-use Rattle.tool_top.specs.declared.fault.Fault.{Fault}
-use Rattle.tool_top.specs.declared.fault.Fault.TheVariants as fault
+use Rattle.tool_top.specs.declared.fault.ToolFault.{ToolFault}
+use Rattle.tool_top.specs.declared.fault.ToolFault.TheVariants as fault
 use Rattle.tool_top.specs.Ends.{Ends, Outputs}
 use Rattle.tool_top.specs.Faults.{fault_of_write}
 
@@ -24,12 +24,12 @@ by_write r w t write.Failed a = a
 by_write r w t write.Memory a = (tt, a.2)
 
 -- the output took a first part of what the command writes, or nothing for want of memory
-pub stopped_ends : (r : Shelved) (w : Writing) (t : Tool) (f : WriteFault) (end : Result (Unit {0}) Fault) → IsErrAnd end (λ e. e ≡ fault_of_write f) → Attempt r w t (Err f) → Ends r w t end
+pub stopped_ends : (r : Shelved) (w : Writing) (t : Tool) (f : WriteFault) (end : Result (Unit {0}) ToolFault) → IsErrAnd end (λ e. e ≡ fault_of_write f) → Attempt r w t (Err f) → Ends r w t end
 stopped_ends r w t f (Ok done) is a = absurd is
-stopped_ends r w t f (Err e) is a = subst (λ (x : Fault). Ends r w t (Err x)) (sym is) (by_write r w t f a)
+stopped_ends r w t f (Err e) is a = subst (λ (x : ToolFault). Ends r w t (Err x)) (sym is) (by_write r w t f a)
 
 -- the output failed on its way through the text
-pub unwritten_ends : (r : Shelved) (w : Writing) (t : Tool) (text : List ℕ) (end : Result (Unit {0}) Fault) → IsErrAnd end (λ e. e ≡ fault.Unwritten) → Outputs r t text → TookPart w text → Ends r w t end
+pub unwritten_ends : (r : Shelved) (w : Writing) (t : Tool) (text : List ℕ) (end : Result (Unit {0}) ToolFault) → IsErrAnd end (λ e. e ≡ fault.Unwritten) → Outputs r t text → TookPart w text → Ends r w t end
 unwritten_ends r w t text end is o part = stopped_ends r w t write.Failed end is (text, o, part)
 
 -- what was accepted while counts stood otherwise

@@ -4,12 +4,12 @@ use Rattle.source_model.specs.declared.Circuit.{Circuit}
 use Rattle.source_model.specs.declared.Given.{Given}
 use Rattle.source_model.specs.Circuits.{RightKinds}
 use Rattle.board_core.specs.declared.Noted.{Noted}
-use Rattle.board_core.specs.Legal.{Job as BoardJob, Complete}
+use Rattle.board_core.specs.Legal.{BoardJob, Complete}
 use Rattle.board_core.specs.Position.{Position, past}
 use Rattle.slice_write.specs.Slices.{sliced}
 use Rattle.slice_write.specs.Pictures.{slices_text}
 use Rattle.finish_run.specs.Next.{Meeting}
-use Rattle.history_replay.specs.Replay.{IsTextOf, FirstBad}
+use Rattle.history_replay.specs.Replay.{IsTextOf, FirstBadLine}
 use Rattle.job_read.specs.declared.Job.{Job}
 use Rattle.job_read.specs.Kept.{IsJob}
 use Rattle.job_read.specs.Starts.{board_job}
@@ -19,14 +19,14 @@ use Rattle.board_write.specs.Laws.{CompleteBoardsAreSchedules}
 use Rattle.job_read.specs.Jobs.{StandsForJob}
 use Rattle.job_read.specs.Reading.{reading}
 use Rattle.tool_words.specs.Commands.{Tool, slices, migrate}
-use Rattle.tool_top.specs.declared.fault.Fault.{Fault}
-use Rattle.tool_top.specs.declared.fault.Fault.TheVariants as fault
+use Rattle.tool_top.specs.declared.fault.ToolFault.{ToolFault}
+use Rattle.tool_top.specs.declared.fault.ToolFault.TheVariants as fault
 use Rattle.tool_top.specs.declared.schedule.Replayed.{Replayed}
 use Rattle.fault_lines.specs.Sinks.{Writing}
 use Rattle.job_read.specs.Shelves.{Shelved, job_on, OnJob}
 use Rattle.tool_top.specs.Schedules.{asked_of, IsShort, slices_shown, migrated}
-use Rattle.tool_top.specs.Carried.{IsBroughtToEnd}
-use Rattle.tool_top.specs.Replayed.{IsReplayed, IsReplayedOn, StopsReading, StopsReplaying}
+use Rattle.tool_top.specs.inside.Carried.{IsBroughtToEnd}
+use Rattle.tool_top.specs.inside.Replayed.{IsReplayed, IsReplayedOn, StopsReading, StopsReplaying}
 use Rattle.tool_top.specs.Serial.{IsScheduleBy}
 use Rattle.tool_top.specs.Ends.{OnSchedule, Outputs}
 use Rattle.tool_top.proofs.Brought.{schedule_by}
@@ -52,13 +52,13 @@ is_replayed tells tells' before mid after c l o s job bytes x stands kept same r
       complete = i.is_text.complete;
     }
 
-pub stops_replay : (tells tells' : List ℕ → Option (List ℕ)) (before mid after : List ℕ → ℕ) (c l o s : List ℕ) (job : Job) (bytes : List ℕ) (f : Fault) → StandsForJob (reading tells before mid c l o) job → tells' s ≡ tells s → ReadAs (tells' s) bytes → StopsReplaying job bytes f → StopsReading (record { tells = tells; before = before; after = after }) c l o s f
+pub stops_replay : (tells tells' : List ℕ → Option (List ℕ)) (before mid after : List ℕ → ℕ) (c l o s : List ℕ) (job : Job) (bytes : List ℕ) (f : ToolFault) → StandsForJob (reading tells before mid c l o) job → tells' s ≡ tells s → ReadAs (tells' s) bytes → StopsReplaying job bytes f → StopsReading (record { tells = tells; before = before; after = after }) c l o s f
 stops_replay tells tells' before mid after c l o s job bytes fault.ScheduleTooLong stands same read h =
     let told : ReadAs (tells s) bytes = subst (λ (t : Option (List ℕ)). ReadAs t bytes) same read in
     (job, stands_later tells before mid after c l o job stands, told_long (tells s) 67108864 bytes told h)
 stops_replay tells tells' before mid after c l o s job bytes (fault.ScheduleIllegal line) stands same read (short, bad) =
     let told : ReadAs (tells s) bytes = subst (λ (t : Option (List ℕ)). ReadAs t bytes) same read in
-    (job, stands_later tells before mid after c l o job stands, told_stands (tells s) (λ text. IsShort text × FirstBad (asked_of job) text line) 67108864 bytes told short (short, bad))
+    (job, stands_later tells before mid after c l o job stands, told_stands (tells s) (λ text. IsShort text × FirstBadLine (asked_of job) text line) 67108864 bytes told short (short, bad))
 stops_replay tells tells' before mid after c l o s job bytes fault.Memory stands same read h = tt
 stops_replay tells tells' before mid after c l o s job bytes (fault.Job f) stands same read h = absurd h
 stops_replay tells tells' before mid after c l o s job bytes fault.ScheduleUnread stands same read h = absurd h

@@ -7,12 +7,13 @@ use Rattle.job_read.specs.declared.fault.JobFault.{JobFault}
 use Rattle.job_read.specs.Reading.{Seen, Failed}
 use Rattle.job_read.specs.Jobs.{Because, CircuitStops, LayoutStops}
 use Rattle.tool_words.specs.Commands.{Tool, serial, lower, layout, verify, slices, migrate, layers, least, tool_words}
-use Rattle.tool_top.specs.declared.fault.Fault.{Fault}
-use Rattle.tool_top.specs.declared.fault.Fault.TheVariants as fault
+use Rattle.tool_top.specs.declared.fault.ToolFault.{ToolFault}
+use Rattle.tool_top.specs.declared.fault.ToolFault.TheVariants as fault
 use Rattle.fault_lines.specs.Sinks.{Writing, Untouched, Took, TookPart, Said}
 use Rattle.job_read.specs.Shelves.{Shelved, seen_on, job_on, OnCircuit, OnLayout, OnJob}
 use Rattle.tool_top.specs.Serial.{IsSerialSchedule, IsLeastSchedule}
-use Rattle.tool_top.specs.Lower.{lowered, shown}
+use Rattle.tool_top.specs.Lower.{shown}
+use Rattle.rotation_list.specs.Listable.{lowered}
 use Rattle.tool_top.specs.Layers.{AreLayersOf}
 use Rattle.tool_top.specs.Schedules.{ScheduleStands, ScheduleLong, ScheduleBad, verdict, slices_shown, migrated}
 use Rattle.tool_top.specs.Faults.{status_of, fault_line}
@@ -61,7 +62,7 @@ StopsAtSchedule r (layers c) P = ⊥
 StopsAtSchedule r (least c l o) P = ⊥
 
 -- the cause of each fault that comes before all writing; want of memory has none
-abbrev pub Stops : Shelved → Tool → Fault → Type 0
+abbrev pub Stops : Shelved → Tool → ToolFault → Type 0
 Stops r t (fault.Job f) = StopsAtJob r t f
 Stops r t fault.ScheduleUnread = StopsAtSchedule r t (λ s job. Failed s)
 Stops r t fault.ScheduleTooLong = StopsAtSchedule r t (λ s job. ScheduleLong s)
@@ -72,17 +73,17 @@ Stops r t fault.Memory = Unit {0}
 -- ---- how a command ends
 
 -- the output took the whole text, or a first part of it and failed, or nothing
-abbrev pub Ends : Shelved → Writing → Tool → Result (Unit {0}) Fault → Type 0
+abbrev pub Ends : Shelved → Writing → Tool → Result (Unit {0}) ToolFault → Type 0
 Ends r w t (Ok done) = (text : List ℕ) × Outputs r t text × Took w text
 Ends r w t (Err fault.Unwritten) = (text : List ℕ) × Outputs r t text × TookPart w text
 Ends r w t (Err f) = Stops r t f × Untouched w
 
-abbrev pub status_after : Result (Unit {0}) Fault → ℕ
+abbrev pub status_after : Result (Unit {0}) ToolFault → ℕ
 status_after (Ok done) = 0
 status_after (Err f) = status_of f
 
 -- the line on `err`, and nothing where all was done
-abbrev pub SaysWhy : Writing → Tool → Result (Unit {0}) Fault → Type 0
+abbrev pub SaysWhy : Writing → Tool → Result (Unit {0}) ToolFault → Type 0
 SaysWhy e t (Ok done) = Untouched e
 SaysWhy e t (Err f) = Said e (fault_line t f)
 
@@ -97,7 +98,7 @@ pub record RefusesWords (words : List (List ℕ)) (w e : Writing) (status : ℕ)
 pub record CarriesOut (words : List (List ℕ)) (r : Shelved) (w e : Writing) (status : ℕ) : Type 0 where
   pub tool : Tool
   pub listed : words ≡ tool_words tool
-  pub end : Result (Unit {0}) Fault
+  pub end : Result (Unit {0}) ToolFault
   pub ends : Ends r w tool end
   pub ended : status ≡ status_after end
   pub said : SaysWhy e tool end

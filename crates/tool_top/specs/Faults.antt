@@ -5,11 +5,11 @@ use Rattle.board_write.specs.declared.fault.WriteFault.{WriteFault}
 use Rattle.board_write.specs.declared.fault.WriteFault.TheVariants as write
 use Rattle.job_read.specs.Statuses.{job_status, job_line}
 use Rattle.tool_words.specs.Commands.{Tool, serial, lower, layout, verify, slices, migrate, layers, least}
-use Rattle.tool_top.specs.declared.fault.Fault.{Fault}
-use Rattle.tool_top.specs.declared.fault.Fault.TheVariants as fault
+use Rattle.tool_top.specs.declared.fault.ToolFault.{ToolFault}
+use Rattle.tool_top.specs.declared.fault.ToolFault.TheVariants as fault
 
 -- a board that wasn't written
-abbrev pub fault_of_write : WriteFault → Fault
+abbrev pub fault_of_write : WriteFault → ToolFault
 fault_of_write write.Memory = fault.Memory
 fault_of_write write.Failed = fault.Unwritten
 
@@ -57,7 +57,7 @@ schedule_name (least c l o) = []
 
 -- ---- statuses and lines
 
-abbrev pub status_of : Fault → ℕ
+abbrev pub status_of : ToolFault → ℕ
 status_of (fault.Job f) = job_status f
 status_of fault.ScheduleUnread = 7
 status_of fault.ScheduleTooLong = 6
@@ -66,7 +66,7 @@ status_of fault.Unwritten = 8
 status_of fault.Memory = 9
 
 -- the line on `err`
-abbrev pub fault_line : Tool → Fault → List ℕ
+abbrev pub fault_line : Tool → ToolFault → List ℕ
 fault_line t (fault.Job f) = job_line (circuit_name t) (layout_name t) (outcomes_name t) f
 fault_line t fault.ScheduleUnread = read_line (schedule_name t)
 fault_line t fault.ScheduleTooLong = long_schedule_line

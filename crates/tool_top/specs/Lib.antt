@@ -5,5 +5,4 @@ pub mod Layers
 pub mod Schedules
 pub mod Ends
 pub mod Told
-pub mod Carried
-pub mod Replayed
+pub mod inside

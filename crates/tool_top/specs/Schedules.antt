@@ -6,7 +6,7 @@ use Rattle.board_core.specs.History.{entries}
 use Rattle.schedule_text.specs.Text.{Version, text_of, two}
 use Rattle.slice_write.specs.Slices.{sliced}
 use Rattle.slice_write.specs.Pictures.{slices_text}
-use Rattle.history_replay.specs.Replay.{Question, IsTextOf, FirstBad, asked}
+use Rattle.history_replay.specs.Replay.{Question, IsTextOf, FirstBadLine, asked}
 use Rattle.job_read.specs.declared.Job.{Job}
 use Rattle.job_read.specs.Starts.{board_job}
 use Rattle.job_read.specs.Reading.{Seen}
@@ -28,7 +28,7 @@ ScheduleLong s = IfSome s.told (λ text. 67108864 < length text)
 
 -- this line of the told text is its first bad one
 abbrev pub ScheduleBad : Seen → Job → ℕ → Type 0
-ScheduleBad s job line = IfSome s.told (λ text. IsShort text × FirstBad (asked_of job) text line)
+ScheduleBad s job line = IfSome s.told (λ text. IsShort text × FirstBadLine (asked_of job) text line)
 
 -- ---- what is written
 

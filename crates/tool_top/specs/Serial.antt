@@ -9,7 +9,7 @@ use Rattle.board_core.specs.declared.Noted.{Noted}
 use Rattle.board_core.specs.declared.Entry.{Entry}
 use Rattle.board_core.specs.declared.Entry.TheVariants.{Claim, Deliver, Release, Step, Settle}
 use Rattle.board_core.specs.History.{History, entries}
-use Rattle.board_core.specs.Legal.{Job as BoardJob}
+use Rattle.board_core.specs.Legal.{BoardJob}
 use Rattle.board_core.specs.Shows.{Shows}
 use Rattle.finish_run.specs.Next.{Meeting}
 use Rattle.schedule_text.specs.Written.{IsSchedule, AllBy}

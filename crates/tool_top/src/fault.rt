@@ -8,7 +8,7 @@ use patch_base::{Failed, Memory};
 
 /// Why a command ends before all of its output is written.
 #[derive(Clone, Copy, Debug, PartialEq, Eq)]
-pub enum Fault {
+pub enum ToolFault {
     /// The circuit, the layout or the outcomes can't be read, or are refused.
     Job(JobFault),
     /// The schedule's text can't be read.
@@ -23,49 +23,49 @@ pub enum Fault {
     Memory,
 }
 
-impl From<JobFault> for Fault {
+impl From<JobFault> for ToolFault {
     ghost use Rattle.std.specs.Prelude.{◌≡◌};
-    ghost use Rattle.tool_top.specs.declared.fault.Fault.TheVariants as fault;
+    ghost use Rattle.tool_top.specs.declared.fault.ToolFault.TheVariants as fault;
 
     ghost from_gives = { λ f e. e ≡ fault.Job f };
 
-    fn from(fault: JobFault) -> Fault {
-        Fault::Job(fault)
+    fn from(fault: JobFault) -> ToolFault {
+        ToolFault::Job(fault)
     }
 }
 
-impl From<WriteFault> for Fault {
+impl From<WriteFault> for ToolFault {
     ghost use Rattle.std.specs.Prelude.{◌≡◌};
     ghost use Rattle.tool_top.specs.Faults.{fault_of_write};
 
     ghost from_gives = { λ f e. e ≡ fault_of_write f };
 
-    fn from(fault: WriteFault) -> Fault {
+    fn from(fault: WriteFault) -> ToolFault {
         match fault {
-            WriteFault::Memory => Fault::Memory,
-            WriteFault::Failed => Fault::Unwritten,
+            WriteFault::Memory => ToolFault::Memory,
+            WriteFault::Failed => ToolFault::Unwritten,
         }
     }
 }
 
-impl From<Memory> for Fault {
+impl From<Memory> for ToolFault {
     ghost use Rattle.std.specs.Prelude.{◌≡◌};
-    ghost use Rattle.tool_top.specs.declared.fault.Fault.TheVariants as fault;
+    ghost use Rattle.tool_top.specs.declared.fault.ToolFault.TheVariants as fault;
 
     ghost from_gives = { λ _ e. e ≡ fault.Memory };
 
-    fn from(_want: Memory) -> Fault {
-        Fault::Memory
+    fn from(_want: Memory) -> ToolFault {
+        ToolFault::Memory
     }
 }
 
-impl From<Failed> for Fault {
+impl From<Failed> for ToolFault {
     ghost use Rattle.std.specs.Prelude.{◌≡◌};
-    ghost use Rattle.tool_top.specs.declared.fault.Fault.TheVariants as fault;
+    ghost use Rattle.tool_top.specs.declared.fault.ToolFault.TheVariants as fault;
 
     ghost from_gives = { λ _ e. e ≡ fault.Unwritten };
 
-    fn from(_failed: Failed) -> Fault {
-        Fault::Unwritten
+    fn from(_failed: Failed) -> ToolFault {
+        ToolFault::Unwritten
     }
 }

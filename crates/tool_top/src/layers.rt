@@ -5,12 +5,13 @@ ghost use Rattle.fault_lines.specs.Sinks.{writing};
 ghost use Rattle.job_read.specs.Kept.{IsCircuit};
 ghost use Rattle.job_read.specs.Shelves.{shelved};
 ghost use Rattle.tool_words.specs.Commands as tool;
-ghost use Rattle.tool_top.specs.declared.fault.Fault.{Fault as Fault_of};
+ghost use Rattle.tool_top.specs.declared.fault.ToolFault.{ToolFault as Fault_of};
 ghost use Rattle.tool_top.specs.Layers.{AreLayersOf, rows_of, spaced, layer_lines, layers_text};
 ghost use Rattle.tool_top.specs.Ends.{Ends};
-ghost use Rattle.tool_top.specs.Told.{Accepts, EndsBy, IsDone, Refuses};
+ghost use Rattle.tool_top.specs.Told.{Accepts, Refuses};
+ghost use Rattle.tool_top.specs.inside.Told.{EndsBy, IsDone};
 
-use crate::fault::Fault;
+use crate::fault::ToolFault;
 use board_core::order_of;
 use job_read::load_circuit;
 use layer_pass::least_layers;
@@ -25,7 +26,7 @@ pub fn layers<S: Shelf, O: Sink>(
     circuit: &str,
     shelf: &mut S,
     out: &mut O,
-) -> Result<(), Fault>
+) -> Result<(), ToolFault>
     ensures told { (n : List ℕ) → S.tells shelf.new n ≡ S.tells shelf.old n }
     ensures counts { (n : List ℕ) → S.faults shelf.old n ≤ S.faults shelf.new n }
     ensures out_counts { O.faults out.old ≤ O.faults out.new }

@@ -14,5 +14,5 @@ mod slices;
 mod top;
 mod verify;
 
-pub use fault::Fault;
+pub use fault::ToolFault;
 pub use top::tool_main;

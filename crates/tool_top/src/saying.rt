@@ -5,45 +5,45 @@ ghost use Rattle.fault_lines.specs.Sinks.{Said, writing};
 ghost use Rattle.tool_words.specs.Commands.{tool_of};
 ghost use Rattle.tool_top.specs.Faults.{circuit_name, layout_name, outcomes_name, schedule_name, fault_line, status_of};
 
-use crate::fault::Fault;
+use crate::fault::ToolFault;
 use fault_lines::{FaultLine, say_line};
 use job_read::say_job;
 use patch_base::Sink;
 use tool_words::ToolCommand;
 
 /// Writes the fault line of a command, and gives the status. A sink that fails changes no status.
-pub fn say<E: Sink>(err: &mut E, command: ToolCommand<'_>, fault: Fault) -> u8
+pub fn say<E: Sink>(err: &mut E, command: ToolCommand<'_>, fault: ToolFault) -> u8
     ensures status { result ≡ status_of fault }
     ensures counts { E.faults err.old ≤ E.faults err.new }
     ensures said { Said (writing E.taken E.faults err.old err.new)
         (fault_line (tool_of command.entry) fault) }
 {
     match fault {
-        Fault::Job(fault) => say_job(
+        ToolFault::Job(fault) => say_job(
             err,
             fault,
             circuit_name(command),
             layout_name(command),
             outcomes_name(command),
         ),
-        Fault::ScheduleUnread => {
+        ToolFault::ScheduleUnread => {
             let name = schedule_name(command);
             say_line(err, FaultLine::Read { name });
             7
         }
-        Fault::ScheduleTooLong => {
+        ToolFault::ScheduleTooLong => {
             say_line(err, FaultLine::LongSchedule);
             6
         }
-        Fault::ScheduleIllegal { line } => {
+        ToolFault::ScheduleIllegal { line } => {
             say_line(err, FaultLine::BadSchedule { line });
             6
         }
-        Fault::Unwritten => {
+        ToolFault::Unwritten => {
             say_line(err, FaultLine::Write);
             8
         }
-        Fault::Memory => {
+        ToolFault::Memory => {
             say_line(err, FaultLine::Memory);
             9
         }

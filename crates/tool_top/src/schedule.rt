@@ -3,15 +3,16 @@
 ghost use Rattle.std.specs.Prelude.{◌≡◌, ℕ, ◌<◌, ◌≤◌, List, length, IfOk, IfErr};
 ghost use Rattle.board_core.specs.declared.Noted.{Noted};
 ghost use Rattle.schedule_text.specs.Text.{Version};
-ghost use Rattle.history_replay.specs.Replay.{IsTextOf, FirstBad};
+ghost use Rattle.history_replay.specs.Replay.{IsTextOf, FirstBadLine};
 ghost use Rattle.job_read.specs.Kept.{IsJob};
-ghost use Rattle.tool_top.specs.declared.fault.Fault.{Fault as Fault_of};
+ghost use Rattle.tool_top.specs.declared.fault.ToolFault.{ToolFault as Fault_of};
 ghost use Rattle.job_read.specs.Shelves.{shelved};
 ghost use Rattle.tool_top.specs.Schedules.{IsShort, asked_of};
-ghost use Rattle.tool_top.specs.Told.{AcceptsSchedule, EndsBy, IsOutside, RefusesSchedule};
-ghost use Rattle.tool_top.specs.Replayed.{IsReplayed, IsReplayedOn, StopsReading, StopsReplaying};
+ghost use Rattle.tool_top.specs.Told.{AcceptsSchedule, RefusesSchedule};
+ghost use Rattle.tool_top.specs.inside.Told.{EndsBy, IsOutside};
+ghost use Rattle.tool_top.specs.inside.Replayed.{IsReplayed, IsReplayedOn, StopsReading, StopsReplaying};
 
-use crate::fault::Fault;
+use crate::fault::ToolFault;
 use board_core::Board;
 use history_replay::{Verdict, verify};
 use job_read::{Job, Started, read_job, start_job};
@@ -40,7 +41,7 @@ pub fn read_schedule<S: Shelf>(
     alloc: Global,
     names: Names<'_>,
     shelf: &mut S,
-) -> Result<Replayed, Fault>
+) -> Result<Replayed, ToolFault>
     ensures told { (n : List ℕ) → S.tells shelf.new n ≡ S.tells shelf.old n }
     ensures counts { (n : List ℕ) → S.faults shelf.old n ≤ S.faults shelf.new n }
     ensures replayed { let r = shelved S.tells S.faults shelf.old shelf.new in
@@ -62,24 +63,24 @@ pub fn read_schedule<S: Shelf>(
     let job = read_job(alloc, shelf, names.circuit, names.layout, names.outcomes)?;
     match read_text(alloc, shelf, names.schedule, SCHEDULE_BYTES) {
         Ok(text) => replay(alloc, job, &text),
-        Err(ReadFault::Failed) => Err(Fault::ScheduleUnread),
-        Err(ReadFault::Memory) => Err(Fault::Memory),
+        Err(ReadFault::Failed) => Err(ToolFault::ScheduleUnread),
+        Err(ReadFault::Memory) => Err(ToolFault::Memory),
     }
 }
 
 // Reads the text of a schedule on the new board of a job.
-fn replay(alloc: Global, job: Job, text: &[u8]) -> Result<Replayed, Fault>
+fn replay(alloc: Global, job: Job, text: &[u8]) -> Result<Replayed, ToolFault>
     requires { IsJob job }
     ensures replayed { IfOk result (IsReplayedOn job text.now) }
     ensures stops { IfErr result (StopsReplaying job text.now) }
     ensures complete { (v : Version) (h : List Noted) → IsShort text.now
         → IsTextOf (asked_of job) text.now v h → IfErr result IsOutside }
-    ensures long { 67108864 < length text.now → result ≡ Err Fault.ScheduleTooLong }
-    ensures bad { (line : ℕ) → IsShort text.now → FirstBad (asked_of job) text.now line
-        → EndsBy (Fault.ScheduleIllegal line) result }
+    ensures long { 67108864 < length text.now → result ≡ Err ToolFault.ScheduleTooLong }
+    ensures bad { (line : ℕ) → IsShort text.now → FirstBadLine (asked_of job) text.now line
+        → EndsBy (ToolFault.ScheduleIllegal line) result }
 {
     if text.len() as u64 > SCHEDULE_BYTES {
-        return Err(Fault::ScheduleTooLong);
+        return Err(ToolFault::ScheduleTooLong);
     }
     let started = start_job(alloc, job)?;
     let Started {
@@ -89,6 +90,6 @@ fn replay(alloc: Global, job: Job, text: &[u8]) -> Result<Replayed, Fault>
     } = started;
     match verify(alloc, board, &circuit, &outcomes, text)? {
         Verdict::Legal(board) => Ok(Replayed { circuit, board }),
-        Verdict::Illegal { line } => Err(Fault::ScheduleIllegal { line }),
+        Verdict::Illegal { line } => Err(ToolFault::ScheduleIllegal { line }),
     }
 }

@@ -2,7 +2,7 @@
 
 ghost use Rattle.std.specs.Prelude.{◌≡◌, ℕ, ◌≤◌, List};
 ghost use Rattle.tool_words.specs.Commands as tool;
-ghost use Rattle.tool_top.specs.declared.fault.Fault.{Fault as Fault_of};
+ghost use Rattle.tool_top.specs.declared.fault.ToolFault.{ToolFault as Fault_of};
 ghost use Rattle.fault_lines.specs.Sinks.{writing};
 ghost use Rattle.job_read.specs.Shelves.{shelved};
 ghost use Rattle.board_core.specs.Position.{past};
@@ -10,9 +10,10 @@ ghost use Rattle.slice_write.specs.Slices.{sliced};
 ghost use Rattle.slice_write.specs.Pictures.{slices_text};
 ghost use Rattle.board_write.specs.Boards.{WritesText};
 ghost use Rattle.tool_top.specs.Ends.{Ends};
-ghost use Rattle.tool_top.specs.Told.{Accepts, EndsBy, IsDone, Refuses};
+ghost use Rattle.tool_top.specs.Told.{Accepts, Refuses};
+ghost use Rattle.tool_top.specs.inside.Told.{EndsBy, IsDone};
 
-use crate::fault::Fault;
+use crate::fault::ToolFault;
 use crate::schedule::{Names, read_schedule};
 use board_core::Board;
 use board_write::WriteFault;
@@ -26,7 +27,7 @@ pub fn slice_schedule<S: Shelf, O: Sink>(
     names: Names<'_>,
     shelf: &mut S,
     out: &mut O,
-) -> Result<(), Fault>
+) -> Result<(), ToolFault>
     ensures told { (n : List ℕ) → S.tells shelf.new n ≡ S.tells shelf.old n }
     ensures counts { (n : List ℕ) → S.faults shelf.old n ≤ S.faults shelf.new n }
     ensures out_counts { O.faults out.old ≤ O.faults out.new }

@@ -2,14 +2,15 @@
 
 ghost use Rattle.std.specs.Prelude.{◌≡◌, ◌≤◌, ◌⊎◌, ℕ, List, map, codes, string_bytes};
 ghost use Rattle.tool_words.specs.Commands.{Tool, tool_of, tool_words};
-ghost use Rattle.tool_top.specs.declared.fault.Fault.{Fault as Fault_of};
+ghost use Rattle.tool_top.specs.declared.fault.ToolFault.{ToolFault as Fault_of};
 ghost use Rattle.fault_lines.specs.Sinks.{Said, writing};
 ghost use Rattle.job_read.specs.Shelves.{shelved};
 ghost use Rattle.job_read.specs.Statuses.{IsDoneStatus};
 ghost use Rattle.tool_top.specs.Ends.{CarriesOut, Ends, RefusesWords, Writes};
-ghost use Rattle.tool_top.specs.Told.{Accepts, AnswersBy, EndsBy, IsDone, Refuses};
+ghost use Rattle.tool_top.specs.Told.{Accepts, AnswersBy, Refuses};
+ghost use Rattle.tool_top.specs.inside.Told.{EndsBy, IsDone};
 
-use crate::fault::Fault;
+use crate::fault::ToolFault;
 use crate::layers::layers;
 use crate::layout::show_layout;
 use crate::least::least;
@@ -85,7 +86,7 @@ fn carry_out<S: Shelf, O: Sink>(
     command: ToolCommand<'_>,
     shelf: &mut S,
     out: &mut O,
-) -> Result<(), Fault>
+) -> Result<(), ToolFault>
     ensures told { (n : List ℕ) → S.tells shelf.new n ≡ S.tells shelf.old n }
     ensures counts { (n : List ℕ) → S.faults shelf.old n ≤ S.faults shelf.new n }
     ensures out_counts { O.faults out.old ≤ O.faults out.new }

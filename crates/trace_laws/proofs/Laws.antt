@@ -2,7 +2,7 @@
 use Rattle.std.proofs.Common.{length, ap}
 use Rattle.trace_laws.specs.Laws.{NeighboursKeepAxes, OrderComesBySwaps, WaitingKeepsAxes, SourceAxes, WaitingKeepsFlips, BitsGiveAxes, NextWaits, NextHasSourceAxis, KnownAxis, KnownFlip, WaitingIsClosed, WaitingIsWithin, WaitingGrows, WaitingIsExchanged, SourceAxisIsPulled, BitsAgree, NumbersAgree}
 use Rattle.trace_laws.specs.Steps.{commuting, pass}
-use Rattle.trace_laws.specs.Runs.{axis_of}
+use Rattle.trace_laws.specs.Runs.{executed_axis}
 use Rattle.trace_laws.proofs.Agree as agree
 use Rattle.trace_laws.proofs.Flips as along
 use Rattle.trace_laws.proofs.HeldBack as held
@@ -27,7 +27,7 @@ pub flips_along : WaitingKeepsFlips
 flips_along = along.flips_along
 
 pub bits_give_axes : BitsGiveAxes
-bits_give_axes = λ n steps w p h waits. ap (λ t. axis_of t.axes p) (along.runs_alike n steps w h waits)
+bits_give_axes = λ n steps w p h waits. ap (λ t. executed_axis t.axes p) (along.runs_alike n steps w h waits)
 
 pub next_waits : NextWaits
 next_waits = ready.waiting_next

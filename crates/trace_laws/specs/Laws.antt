@@ -3,8 +3,8 @@ use Rattle.std.specs.Prelude.{◌≡◌, ℕ, ◌+◌, ◌<◌, ◌≤◌, true,
 use Rattle.pauli_product.specs.Signed.{Signed}
 use Rattle.pauli_product.specs.Pulls.{pull}
 use Rattle.pauli_product.specs.Bits.{number_of}
-use Rattle.trace_laws.specs.Steps.{Step, StepsOfLength, axes_commute, commuting, pass, writes, bare}
-use Rattle.trace_laws.specs.Runs.{begun, axis_of, axis_now, bit_below, flips, after, plain, run, run_with, source_flip, source_axis}
+use Rattle.trace_laws.specs.Steps.{Step, StepsOfLength, axes_commute, commuting, pass, act_writes, bare}
+use Rattle.trace_laws.specs.Runs.{begun, executed_axis, axis_now, bit_below, flips_in_order, all_carried_out, plain, run, run_with, source_flip, source_axis}
 use Rattle.trace_laws.specs.Orders.{upto, stands, others, Exchanged, SwapEqual, Waiting, Next, NoneReversed, OrderOfAll}
 
 -- neighbours whose static axes commute change places, and no product's axis changes, whatever flips
@@ -35,7 +35,7 @@ SourceAxes = (n : ℕ) (steps : List Step) (p : ℕ) →
 abbrev pub WaitingKeepsFlips : Type 0
 WaitingKeepsFlips = (n : ℕ) (steps : List Step) (u : List ℕ) (p : ℕ) (v : List ℕ) (s : Step) →
     StepsOfLength n steps → Waiting (pass commuting steps) (length steps) [] (u ++ p ∷ v) → slice_get steps p ≡ Some s →
-    flips steps (after (flips steps) steps begun u) p s.act ≡ source_flip steps p
+    flips_in_order steps (all_carried_out (flips_in_order steps) steps begun u) p s.act ≡ source_flip steps p
 
 -- and the bits give each product the axis that the flips of a gate at a time give it
 abbrev pub BitsGiveAxes : Type 0
@@ -54,7 +54,7 @@ abbrev pub NextHasSourceAxis : Type 0
 NextHasSourceAxis = (n : ℕ) (steps : List Step) (u : List ℕ) (p : ℕ) (s : Step) →
     StepsOfLength n steps → Waiting (pass commuting steps) (length steps) [] u → Next steps u p →
     slice_get steps p ≡ Some s →
-    source_axis steps p ≡ Some (axis_now (after (flips steps) steps begun u) s)
+    source_axis steps p ≡ Some (axis_now (all_carried_out (flips_in_order steps) steps begun u) s)
 
 -- two tables of the same products that agree on the outcomes along an order
 abbrev pub KnownAlong : List Step → List Step → List ℕ → Type 0
@@ -109,8 +109,8 @@ SourceAxisIsPulled = (steps : List Step) (p : ℕ) (s : Step) → slice_get step
 -- bits agree where the axes of the products that write them do
 abbrev pub BitsAgree : Type 0
 BitsAgree = (steps : List Step) (done done' : List (ℕ × Signed)) (p b : ℕ) →
-    ((q : ℕ) (s : Step) → q < p → slice_get steps q ≡ Some s → writes s.act b ≡ true →
-    axis_of done q ≡ axis_of done' q) →
+    ((q : ℕ) (s : Step) → q < p → slice_get steps q ≡ Some s → act_writes s.act b ≡ true →
+    executed_axis done q ≡ executed_axis done' q) →
     bit_below steps done p b ≡ bit_below steps done' p b
 
 -- numbers agree where their bits do

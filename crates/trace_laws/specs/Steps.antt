@@ -16,22 +16,22 @@ pub record Step : Type 0 where
   pub act : Act
 
 -- the bits that an act reads and writes
-abbrev pub uses_of : Act → BitUses
-uses_of (rotate raw x) = record { reads = λ b. false; write = None }
-uses_of (measure raw bit) = record { reads = λ b. false; write = Some bit }
-uses_of (settle first size value) = record { reads = is_among first size; write = None }
+abbrev pub uses_of_act : Act → BitUses
+uses_of_act (rotate raw x) = record { reads = λ b. false; write = None }
+uses_of_act (measure raw bit) = record { reads = λ b. false; write = Some bit }
+uses_of_act (settle first size value) = record { reads = is_among first size; write = None }
 
 -- whether an act writes a bit
-abbrev pub writes : Act → ℕ → Bool
-writes a b = is_written (uses_of a).write b
+abbrev pub act_writes : Act → ℕ → Bool
+act_writes a b = is_written (uses_of_act a).write b
 
 -- whether it reads a bit
-abbrev pub reads : Act → ℕ → Bool
-reads a b = (uses_of a).reads b
+abbrev pub act_reads : Act → ℕ → Bool
+act_reads a b = (uses_of_act a).reads b
 
 -- whether the first reads the bit that the second writes
-abbrev pub reads_from : Act → Act → Bool
-reads_from a a' = uses.reads_from (uses_of a) (uses_of a')
+abbrev pub act_reads_from : Act → Act → Bool
+act_reads_from a a' = uses.reads_from (uses_of_act a) (uses_of_act a')
 
 -- products whose static axes commute
 abbrev pub axes_commute : Step → Step → Bool
@@ -39,7 +39,7 @@ axes_commute s t = commute s.axis t.axis
 
 -- products commute where their static axes do and neither reads a bit that the other writes
 abbrev pub commuting : Step → Step → Bool
-commuting s t = uses.commuting s.axis (uses_of s.act) t.axis (uses_of t.act)
+commuting s t = uses.commuting s.axis (uses_of_act s.act) t.axis (uses_of_act t.act)
 
 -- a test of two products; a number that has no product passes
 abbrev pub both : (Step → Step → Bool) → Option Step → Option Step → Bool

@@ -10,7 +10,7 @@ use Rattle.pauli_product.specs.Signed.{Signed, OfLength, IsNotIdentity}
 use Rattle.source_model.specs.declared.Static.{Static}
 use Rattle.source_model.specs.Used.{acts, acts_at, takes_region, is_used}
 use Rattle.patch_layout.specs.Grid.{Grid, Open}
-use Rattle.patch_layout.specs.Row.{wanted, IsUsed}
+use Rattle.patch_layout.specs.Row.{demand, IsUsed}
 use Rattle.magic_pool.specs.declared.Fail.{Fail}
 use Rattle.magic_pool.specs.Pooled.{Pooled}
 use Rattle.board_core.specs.Laws.{ProductsOfLength}
@@ -54,9 +54,9 @@ module _ (rotations : Bool) (products : List Static) (each : All (IsServed rotat
   served : (p : ℕ) (s : Static) → slice_get products p ≡ Some s → IsServed rotations s
   served p s e = subst (IsServed rotations) (get_or_from_slice_get products p s s e) (each p s (slice_get_within products p s e))
 
-  pub open_for : (g : Grid) → Open g (wanted (true ∷ true ∷ []) rotations) → IsOpenFor g products
+  pub open_for : (g : Grid) → Open g (demand (true ∷ true ∷ []) rotations) → IsOpenFor g products
   open_for g is_open = (
-    wanted (true ∷ true ∷ []) rotations,
+    demand (true ∷ true ∷ []) rotations,
     record { used = λ q u. two_used q (used_within 2 products q long u); rotations = λ p s e r. (served p s e).port r },
     is_open,
   )

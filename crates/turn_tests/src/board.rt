@@ -6,10 +6,10 @@
 ghost use Rattle.std.specs.Prelude.{◌≡◌, ◌≤◌, IsTrue, IfOk, All, length, true, [], ◌∷◌};
 ghost use Rattle.pauli_product.specs.Signed.{IsNotIdentity};
 ghost use Rattle.patch_layout.specs.Grid.{Open};
-ghost use Rattle.patch_layout.specs.Row.{wanted};
+ghost use Rattle.patch_layout.specs.Row.{demand};
 ghost use Rattle.board_core.specs.Laws.{ProductsOfLength};
 ghost use Rattle.board_core.specs.Shows.{IsMadeFor};
-ghost use Rattle.grid_lock.specs.Passes.{IsOf};
+ghost use Rattle.grid_lock.specs.Passes.{IsPassOf};
 ghost use Rattle.turn_tests.specs.Rows.{IsServed};
 
 use board_core::{Board, order_of, pool_of};
@@ -72,7 +72,7 @@ fn products(alloc: Global, rows: &[Row], rotations: bool) -> Result<Vec<Static>,
 }
 
 fn layout(alloc: Global, text: &[u8], rotations: bool) -> Result<Layout, Memory>
-    ensures { IfOk result (λ layout. Open layout (wanted (true ∷ true ∷ []) rotations)) }
+    ensures { IfOk result (λ layout. Open layout (demand (true ∷ true ∷ []) rotations)) }
 {
     let need = Need {
         qubits: 2,
@@ -152,7 +152,7 @@ pub(crate) fn measurement(alloc: Global, layout: &Layout) -> Result<Plan, Memory
 /// A grid over an empty board, and its pass 0.
 pub(crate) fn open(alloc: Global, board: Board) -> Result<(Grid, Pass), Memory>
     requires { board.history ≡ [] }
-    ensures grid { IfOk result (λ r. IsOf r.0 r.1) }
+    ensures grid { IfOk result (λ r. IsPassOf r.0 r.1) }
     ensures opened { IfOk result (λ r. r.0.opened ≡ board) }
     ensures first { IfOk result (λ r. (r.1.view.number ≡ 0) × (r.1.view.made ≡ 0)) }
 {

@@ -2,7 +2,7 @@
 
 ghost use Rattle.std.specs.Prelude.{◌≡◌, IfOk};
 ghost use Rattle.board_core.specs.Shows.{IsMadeFor};
-ghost use Rattle.grid_lock.specs.Passes.{IsOf, IsSamePass};
+ghost use Rattle.grid_lock.specs.Passes.{IsPassOf, IsSamePass};
 
 use crate::board::{look_for, measurement, open, rotation, row_board};
 use board_core::{Board, ClaimWhy, Claimed, Noted};
@@ -17,8 +17,8 @@ use std::test::Fail;
 
 // How many steps of factory 0 were accepted, of so many tries.
 fn steps(alloc: Global, grid: &Grid, pass: &mut Pass, tries: u32) -> Result<u32, Memory>
-    requires { IsOf grid.now pass.old }
-    ensures grid { IsOf grid.now pass.new }
+    requires { IsPassOf grid.now pass.old }
+    ensures grid { IsPassOf grid.now pass.new }
     ensures same { IsSamePass pass.old pass.new }
 {
     let mut made = 0u32;
@@ -39,8 +39,8 @@ fn carry_out(
     rotation: Plan,
     measurement: Plan,
 ) -> Result<(), Memory>
-    requires { IsOf grid.now pass.old }
-    ensures grid { IsOf grid.now pass.new }
+    requires { IsPassOf grid.now pass.old }
+    ensures grid { IsPassOf grid.now pass.new }
     ensures same { IsSamePass pass.old pass.new }
 {
     let claimed = grid.try_claim(pass, rotation, Node::empty(alloc)?);
@@ -65,9 +65,9 @@ fn carry_out(
 
 // A look at the measurement, and none at a product that isn't there.
 fn look_twice(rt: &impl Abort, grid: &Grid, pass: &mut Pass, look: &mut Look)
-    requires grid { IsOf grid.now pass.old }
+    requires grid { IsPassOf grid.now pass.old }
     requires made { IsMadeFor grid.now.opened look.old }
-    ensures grid { IsOf grid.now pass.new }
+    ensures grid { IsPassOf grid.now pass.new }
     ensures same { IsSamePass pass.old pass.new }
 {
     let seen = grid.try_look(pass, 1, look);
@@ -79,8 +79,8 @@ fn look_twice(rt: &impl Abort, grid: &Grid, pass: &mut Pass, look: &mut Look)
 
 // The measurement is claimed after the rotation.
 fn claim_last(rt: &impl Abort, grid: &Grid, pass: &mut Pass, plan: Plan, node: Node<Noted>)
-    requires { IsOf grid.now pass.old }
-    ensures { IsOf grid.now pass.new }
+    requires { IsPassOf grid.now pass.old }
+    ensures { IsPassOf grid.now pass.new }
 {
     let claimed = grid.try_claim(pass, plan, node);
     let state = None;
@@ -95,7 +95,7 @@ fn close_at_last(
     zero: Pass,
     one: Pass,
 ) -> Result<Board, Memory>
-    requires passes { IsOf grid zero × IsOf grid one }
+    requires passes { IsPassOf grid zero × IsPassOf grid one }
     requires first { zero.view.number ≡ 0 }
 {
     let refused = match grid.close(zero, Vec::new(alloc)) {
@@ -113,11 +113,11 @@ fn close_at_last(
 
 // A pass splits off another one, which has the next number.
 fn split_off(rt: &impl Abort, grid: &Grid, zero: &mut Pass) -> Result<Pass, Memory>
-    requires grid { IsOf grid.now zero.old }
+    requires grid { IsPassOf grid.now zero.old }
     requires first { (zero.old.view.number ≡ 0) × (zero.old.view.made ≡ 0) }
-    ensures grid { IsOf grid.now zero.new }
+    ensures grid { IsPassOf grid.now zero.new }
     ensures first { zero.new.view.number ≡ 0 }
-    ensures new { IfOk result (IsOf grid.now) }
+    ensures new { IfOk result (IsPassOf grid.now) }
 {
     let one = grid.split(zero)?;
     assert_eq!(rt; (zero.number(), one.number()), (0, 1));
@@ -133,12 +133,12 @@ fn call_each(
     look: &mut Look,
     plans: (Plan, Plan, Plan),
 ) -> Result<Pass, Memory>
-    requires grid { IsOf grid.now zero.old }
+    requires grid { IsPassOf grid.now zero.old }
     requires first { (zero.old.view.number ≡ 0) × (zero.old.view.made ≡ 0) }
     requires made { IsMadeFor grid.now.opened look.old }
-    ensures grid { IsOf grid.now zero.new }
+    ensures grid { IsPassOf grid.now zero.new }
     ensures first { zero.new.view.number ≡ 0 }
-    ensures new { IfOk result (IsOf grid.now) }
+    ensures new { IfOk result (IsPassOf grid.now) }
 {
     let (rotation, early, late) = plans;
     let made = steps(alloc, grid, zero, 12)?;

@@ -2,7 +2,7 @@
 
 ghost use Rattle.std.specs.Prelude.{◌≡◌, ◌+◌, ◌<◌, ◌≤◌, IfOk};
 ghost use Rattle.std.specs.List.{All};
-ghost use Rattle.grid_lock.specs.Passes.{IsOf};
+ghost use Rattle.grid_lock.specs.Passes.{IsPassOf};
 
 use board_core::Board;
 use grid_lock::{Grid, Pass};
@@ -12,26 +12,26 @@ use std::process::Abort;
 
 // A new pass.
 fn split(grid: &Grid, zero: &mut Pass) -> Result<Pass, Memory>
-    requires grid { IsOf grid.now zero.old }
+    requires grid { IsPassOf grid.now zero.old }
     requires first { zero.old.view.number ≡ 0 }
     requires few { zero.old.view.made < 63 }
-    ensures grid { IsOf grid.now zero.new }
+    ensures grid { IsPassOf grid.now zero.new }
     ensures first { zero.new.view.number ≡ 0 }
     ensures made { zero.new.view.made ≡ zero.old.view.made + 1 }
-    ensures new { IfOk result (IsOf grid.now) }
+    ensures new { IfOk result (IsPassOf grid.now) }
 {
     grid.split(zero)
 }
 
 /// Two new passes.
 pub(crate) fn split_two(grid: &Grid, zero: &mut Pass) -> Result<(Pass, Pass), Memory>
-    requires grid { IsOf grid.now zero.old }
+    requires grid { IsPassOf grid.now zero.old }
     requires first { zero.old.view.number ≡ 0 }
     requires few { zero.old.view.made < 60 }
-    ensures grid { IsOf grid.now zero.new }
+    ensures grid { IsPassOf grid.now zero.new }
     ensures first { zero.new.view.number ≡ 0 }
     ensures made { zero.new.view.made ≤ zero.old.view.made + 2 }
-    ensures new { IfOk result (λ r. IsOf grid.now r.0 × IsOf grid.now r.1) }
+    ensures new { IfOk result (λ r. IsPassOf grid.now r.0 × IsPassOf grid.now r.1) }
 {
     let one = split(grid, zero)?;
     let two = split(grid, zero)?;
@@ -40,9 +40,9 @@ pub(crate) fn split_two(grid: &Grid, zero: &mut Pass) -> Result<(Pass, Pass), Me
 
 /// The board, once pass 0 and all others are handed in.
 pub(crate) fn close(rt: &impl Abort, grid: Grid, zero: Pass, others: Vec<Pass>) -> Board
-    requires grid { IsOf grid zero }
+    requires grid { IsPassOf grid zero }
     requires first { zero.view.number ≡ 0 }
-    requires others { All (IsOf grid) others.items }
+    requires others { All (IsPassOf grid) others.items }
 {
     match grid.close(zero, others) {
         Ok(board) => board,
@@ -59,9 +59,9 @@ pub(crate) fn close_two(
     one: Pass,
     two: Pass,
 ) -> Result<Board, Memory>
-    requires grid { IsOf grid zero }
+    requires grid { IsPassOf grid zero }
     requires first { zero.view.number ≡ 0 }
-    requires others { IsOf grid one × IsOf grid two }
+    requires others { IsPassOf grid one × IsPassOf grid two }
 {
     let mut others = Vec::new(alloc);
     others.push(one)?;
@@ -78,10 +78,10 @@ pub(crate) fn close_four(
     left: (Pass, Pass),
     right: (Pass, Pass),
 ) -> Result<Board, Memory>
-    requires grid { IsOf grid zero }
+    requires grid { IsPassOf grid zero }
     requires first { zero.view.number ≡ 0 }
-    requires left { IsOf grid left.0 × IsOf grid left.1 }
-    requires right { IsOf grid right.0 × IsOf grid right.1 }
+    requires left { IsPassOf grid left.0 × IsPassOf grid left.1 }
+    requires right { IsPassOf grid right.0 × IsPassOf grid right.1 }
 {
     let mut others = Vec::new(alloc);
     others.push(left.0)?;

@@ -1,6 +1,6 @@
 //! What a refused call hands back serves the next call, in one thread.
 
-ghost use Rattle.grid_lock.specs.Passes.{IsOf, IsSamePass};
+ghost use Rattle.grid_lock.specs.Passes.{IsPassOf, IsSamePass};
 
 use crate::board::{measurement, open, rotation, row_board};
 use crate::passes::close;
@@ -39,8 +39,8 @@ fn not_claimed(
     node: Node<Noted>,
     why: ClaimWhy,
 ) -> (Plan, Node<Noted>)
-    requires { IsOf grid.now pass.old }
-    ensures grid { IsOf grid.now pass.new }
+    requires { IsPassOf grid.now pass.old }
+    ensures grid { IsPassOf grid.now pass.new }
     ensures same { IsSamePass pass.old pass.new }
 {
     let answer = claim(grid, pass, plan, node);
@@ -58,8 +58,8 @@ fn not_delivered(
     node: Node<Noted>,
     why: DeliverWhy,
 ) -> Node<Noted>
-    requires { IsOf grid.now pass.old }
-    ensures grid { IsOf grid.now pass.new }
+    requires { IsPassOf grid.now pass.old }
+    ensures grid { IsPassOf grid.now pass.new }
     ensures same { IsSamePass pass.old pass.new }
 {
     match deliver(grid, pass, p, MEASURED, node) {
@@ -80,8 +80,8 @@ fn not_released(
     node: Node<Noted>,
     why: ReleaseWhy,
 ) -> Node<Noted>
-    requires { IsOf grid.now pass.old }
-    ensures grid { IsOf grid.now pass.new }
+    requires { IsPassOf grid.now pass.old }
+    ensures grid { IsPassOf grid.now pass.new }
     ensures same { IsSamePass pass.old pass.new }
 {
     match release(grid, pass, p, node) {
@@ -102,8 +102,8 @@ fn not_stepped(
     node: Node<Noted>,
     why: BoardStepWhy,
 ) -> Node<Noted>
-    requires { IsOf grid.now pass.old }
-    ensures grid { IsOf grid.now pass.new }
+    requires { IsPassOf grid.now pass.old }
+    ensures grid { IsPassOf grid.now pass.new }
     ensures same { IsSamePass pass.old pass.new }
 {
     match step(grid, pass, f, node) {
@@ -125,8 +125,8 @@ fn claimed(
     place: u32,
     state: Option<u32>,
 )
-    requires { IsOf grid.now pass.old }
-    ensures grid { IsOf grid.now pass.new }
+    requires { IsPassOf grid.now pass.old }
+    ensures grid { IsPassOf grid.now pass.new }
     ensures same { IsSamePass pass.old pass.new }
 {
     let claimed = claim(grid, pass, plan, node);
@@ -141,8 +141,8 @@ fn make_state(
     pass: &mut Pass,
     node: Node<Noted>,
 ) -> Result<(), Memory>
-    requires { IsOf grid.now pass.old }
-    ensures grid { IsOf grid.now pass.new }
+    requires { IsPassOf grid.now pass.old }
+    ensures grid { IsPassOf grid.now pass.new }
     ensures same { IsSamePass pass.old pass.new }
 {
     assert!(rt; step(grid, pass, 0, node).is_ok());
@@ -160,8 +160,8 @@ fn no_state(
     pass: &mut Pass,
     rotation: Plan,
 ) -> Result<(Plan, Node<Noted>), Memory>
-    requires { IsOf grid.now pass.old }
-    ensures grid { IsOf grid.now pass.new }
+    requires { IsPassOf grid.now pass.old }
+    ensures grid { IsPassOf grid.now pass.new }
     ensures same { IsSamePass pass.old pass.new }
 {
     let node = Node::empty(alloc)?;
@@ -176,8 +176,8 @@ fn no_step(
     grid: &Grid,
     pass: &mut Pass,
 ) -> Result<Node<Noted>, Memory>
-    requires { IsOf grid.now pass.old }
-    ensures grid { IsOf grid.now pass.new }
+    requires { IsPassOf grid.now pass.old }
+    ensures grid { IsPassOf grid.now pass.new }
     ensures same { IsSamePass pass.old pass.new }
 {
     let node = Node::empty(alloc)?;
@@ -194,8 +194,8 @@ fn rotate(
     pass: &mut Pass,
     rotation: Plan,
 ) -> Result<(), Memory>
-    requires { IsOf grid.now pass.old }
-    ensures grid { IsOf grid.now pass.new }
+    requires { IsPassOf grid.now pass.old }
+    ensures grid { IsPassOf grid.now pass.new }
     ensures same { IsSamePass pass.old pass.new }
 {
     let (plan, node) = no_state(rt, alloc, grid, pass, rotation)?;
@@ -212,8 +212,8 @@ fn deliver_rotation(
     grid: &Grid,
     pass: &mut Pass,
 ) -> Result<(), Memory>
-    requires { IsOf grid.now pass.old }
-    ensures grid { IsOf grid.now pass.new }
+    requires { IsPassOf grid.now pass.old }
+    ensures grid { IsPassOf grid.now pass.new }
     ensures same { IsSamePass pass.old pass.new }
 {
     let node = Node::empty(alloc)?;
@@ -230,8 +230,8 @@ fn release_rotation(
     grid: &Grid,
     pass: &mut Pass,
 ) -> Result<(), Memory>
-    requires { IsOf grid.now pass.old }
-    ensures grid { IsOf grid.now pass.new }
+    requires { IsPassOf grid.now pass.old }
+    ensures grid { IsPassOf grid.now pass.new }
     ensures same { IsSamePass pass.old pass.new }
 {
     let node = Node::empty(alloc)?;
@@ -249,8 +249,8 @@ fn held(
     pass: &mut Pass,
     measurement: Plan,
 ) -> Result<(Plan, Node<Noted>), Memory>
-    requires { IsOf grid.now pass.old }
-    ensures grid { IsOf grid.now pass.new }
+    requires { IsPassOf grid.now pass.old }
+    ensures grid { IsPassOf grid.now pass.new }
     ensures same { IsSamePass pass.old pass.new }
 {
     let node = Node::empty(alloc)?;
@@ -266,8 +266,8 @@ fn measure(
     pass: &mut Pass,
     measurement: Plan,
 ) -> Result<(), Memory>
-    requires { IsOf grid.now pass.old }
-    ensures grid { IsOf grid.now pass.new }
+    requires { IsPassOf grid.now pass.old }
+    ensures grid { IsPassOf grid.now pass.new }
     ensures same { IsSamePass pass.old pass.new }
 {
     let (plan, node) = held(rt, alloc, grid, pass, measurement)?;

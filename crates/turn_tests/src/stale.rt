@@ -5,7 +5,7 @@
 ghost use Rattle.std.specs.Prelude.{◌≡◌, [], IfOk};
 ghost use Rattle.board_core.specs.Laws.{ProductsOfLength};
 ghost use Rattle.board_core.specs.Shows.{IsMadeFor};
-ghost use Rattle.grid_lock.specs.Passes.{IsOf};
+ghost use Rattle.grid_lock.specs.Passes.{IsPassOf};
 
 use crate::board::{Row, board_for, look_for, open, plan_for};
 use crate::passes::{close_two, split_two};
@@ -39,9 +39,9 @@ type Said = Result<Claimed, Option<ClaimWhy>>;
 
 // Fills a look, and says whether it did: it doesn't where each try found the turn held.
 fn looked(grid: &Grid, mut pass: Pass, p: u32, mut seen: Look) -> (Pass, Look, bool)
-    requires grid { IsOf grid.now pass }
+    requires grid { IsPassOf grid.now pass }
     requires look { IsMadeFor grid.now.opened seen }
-    ensures grid { IsOf grid.now result.0 }
+    ensures grid { IsPassOf grid.now result.0 }
     ensures look { IsMadeFor grid.now.opened result.1 }
 {
     for _ in 0..TRIES {
@@ -61,20 +61,20 @@ fn both_look<R: Threads + Sync>(
     two: Pass,
     second: Look,
 ) -> ((Pass, Look, bool), (Pass, Look, bool))
-    requires passes { IsOf grid.now one × IsOf grid.now two }
+    requires passes { IsPassOf grid.now one × IsPassOf grid.now two }
     requires looks { IsMadeFor grid.now.opened first × IsMadeFor grid.now.opened second }
-    ensures passes { IsOf grid.now result.0.0 × IsOf grid.now result.1.0 }
+    ensures passes { IsPassOf grid.now result.0.0 × IsPassOf grid.now result.1.0 }
     ensures looks { IsMadeFor grid.now.opened result.0.1 × IsMadeFor grid.now.opened result.1.1 }
 {
     join(
         rt,
         || -> (Pass, Look, bool)
-            requires { IsOf grid.now one × IsMadeFor grid.now.opened first }
-            ensures { IsOf grid.entry.now result.0 × IsMadeFor grid.entry.now.opened result.1 }
+            requires { IsPassOf grid.now one × IsMadeFor grid.now.opened first }
+            ensures { IsPassOf grid.entry.now result.0 × IsMadeFor grid.entry.now.opened result.1 }
         { looked(grid, one, 0, first) },
         || -> (Pass, Look, bool)
-            requires { IsOf grid.now two × IsMadeFor grid.now.opened second }
-            ensures { IsOf grid.entry.now result.0 × IsMadeFor grid.entry.now.opened result.1 }
+            requires { IsPassOf grid.now two × IsMadeFor grid.now.opened second }
+            ensures { IsPassOf grid.entry.now result.0 × IsMadeFor grid.entry.now.opened result.1 }
         { looked(grid, two, 1, second) },
     )
 }
@@ -89,9 +89,9 @@ fn shows_nothing(rt: &impl Abort, seen: &Look, p: u32) {
 
 // What a thread saw. The look is filled here, where its thread found the turn held.
 fn sees_nothing(rt: &impl Abort, grid: &Grid, told: (Pass, Look, bool), p: u32) -> Pass
-    requires grid { IsOf grid.now told.0 }
+    requires grid { IsPassOf grid.now told.0 }
     requires look { IsMadeFor grid.now.opened told.1 }
-    ensures { IsOf grid.now result }
+    ensures { IsPassOf grid.now result }
 {
     let (mut pass, mut seen, done) = told;
     if !done {
@@ -103,8 +103,8 @@ fn sees_nothing(rt: &impl Abort, grid: &Grid, told: (Pass, Look, bool), p: u32) 
 
 // The same claim again, where the turn was held.
 fn again(grid: &Grid, pass: &mut Pass, answer: Answer) -> Answer
-    requires { IsOf grid.now pass.old }
-    ensures { IsOf grid.now pass.new }
+    requires { IsPassOf grid.now pass.old }
+    ensures { IsPassOf grid.now pass.new }
 {
     match answer {
         Ok(claimed) => Ok(claimed),
@@ -115,8 +115,8 @@ fn again(grid: &Grid, pass: &mut Pass, answer: Answer) -> Answer
 
 // The answer that isn't Busy, or Busy where each try found the turn held.
 fn tried(grid: &Grid, mut pass: Pass, bid: Bid) -> (Pass, Answer)
-    requires { IsOf grid.now pass }
-    ensures { IsOf grid.now result.0 }
+    requires { IsPassOf grid.now pass }
+    ensures { IsPassOf grid.now result.0 }
 {
     let (plan, node) = bid;
     let mut answer = claim(grid, &mut pass, plan, node);
@@ -135,18 +135,18 @@ fn both_claim<R: Threads + Sync>(
     two: Pass,
     second: Bid,
 ) -> ((Pass, Answer), (Pass, Answer))
-    requires { IsOf grid.now one × IsOf grid.now two }
-    ensures { IsOf grid.now result.0.0 × IsOf grid.now result.1.0 }
+    requires { IsPassOf grid.now one × IsPassOf grid.now two }
+    ensures { IsPassOf grid.now result.0.0 × IsPassOf grid.now result.1.0 }
 {
     join(
         rt,
         || -> (Pass, Answer)
-            requires { IsOf grid.now one }
-            ensures { IsOf grid.entry.now result.0 }
+            requires { IsPassOf grid.now one }
+            ensures { IsPassOf grid.entry.now result.0 }
         { tried(grid, one, first) },
         || -> (Pass, Answer)
-            requires { IsOf grid.now two }
-            ensures { IsOf grid.entry.now result.0 }
+            requires { IsPassOf grid.now two }
+            ensures { IsPassOf grid.entry.now result.0 }
         { tried(grid, two, second) },
     )
 }
@@ -161,8 +161,8 @@ fn said(answer: Answer) -> Said {
 
 // What a claim was answered, tried once more now that no other pass is in a call.
 fn settled(grid: &Grid, told: (Pass, Answer)) -> (Pass, Said)
-    requires { IsOf grid.now told.0 }
-    ensures { IsOf grid.now result.0 }
+    requires { IsPassOf grid.now told.0 }
+    ensures { IsPassOf grid.now result.0 }
 {
     let (mut pass, answer) = told;
     let answer = again(grid, &mut pass, answer);
@@ -191,12 +191,12 @@ fn meet<R: Threads + Sync + Abort>(
     looks: (Look, Look),
     bids: (Bid, Bid),
 ) -> Result<(Pass, Pass, u32), Memory>
-    requires grid { IsOf grid.now zero.old }
+    requires grid { IsPassOf grid.now zero.old }
     requires first { (zero.old.view.number ≡ 0) × (zero.old.view.made ≡ 0) }
     requires looks { IsMadeFor grid.now.opened looks.0 × IsMadeFor grid.now.opened looks.1 }
-    ensures grid { IsOf grid.now zero.new }
+    ensures grid { IsPassOf grid.now zero.new }
     ensures first { zero.new.view.number ≡ 0 }
-    ensures others { IfOk result (λ r. IsOf grid.now r.0 × IsOf grid.now r.1) }
+    ensures others { IfOk result (λ r. IsPassOf grid.now r.0 × IsPassOf grid.now r.1) }
 {
     let passes = split_two(grid, zero)?;
     let (one, two) = both_look(rt, grid, passes.0, looks.0, passes.1, looks.1);

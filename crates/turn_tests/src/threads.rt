@@ -1,7 +1,7 @@
 //! Threads that push entries through one grid.
 
 ghost use Rattle.std.specs.Prelude.{◌≡◌, ◌≤◌, length, [], IfOk};
-ghost use Rattle.grid_lock.specs.Passes.{IsOf, IsSamePass};
+ghost use Rattle.grid_lock.specs.Passes.{IsPassOf, IsSamePass};
 
 use crate::board::{open, row_board};
 use crate::passes::{close_four, close_two, split_two};
@@ -22,8 +22,8 @@ type Worked = (Pass, u32);
 
 // One try of a step, and how many entries it made. None where the factory is stocked, or there is no memory.
 fn once(alloc: Global, grid: &Grid, pass: &mut Pass) -> Option<u32>
-    requires { IsOf grid.now pass.old }
-    ensures grid { IsOf grid.now pass.new }
+    requires { IsPassOf grid.now pass.old }
+    ensures grid { IsPassOf grid.now pass.new }
     ensures same { IsSamePass pass.old pass.new }
 {
     let Ok(node) = Node::empty(alloc) else {
@@ -38,8 +38,8 @@ fn once(alloc: Global, grid: &Grid, pass: &mut Pass) -> Option<u32>
 
 // Steps the factory until it is stocked, with so many tries at most.
 fn stepped(alloc: Global, grid: &Grid, mut pass: Pass, tries: u32) -> Worked
-    requires { IsOf grid.now pass }
-    ensures grid { IsOf grid.now result.0 }
+    requires { IsPassOf grid.now pass }
+    ensures grid { IsPassOf grid.now result.0 }
     ensures same { IsSamePass pass result.0 }
 {
     let mut made = 0u32;
@@ -61,18 +61,18 @@ fn both_step<R: Threads + Sync>(
     two: Pass,
     tries: u32,
 ) -> (Worked, Worked)
-    requires { IsOf grid.now one × IsOf grid.now two }
-    ensures { IsOf grid.now result.0.0 × IsOf grid.now result.1.0 }
+    requires { IsPassOf grid.now one × IsPassOf grid.now two }
+    ensures { IsPassOf grid.now result.0.0 × IsPassOf grid.now result.1.0 }
 {
     join(
         rt,
         || -> Worked
-            requires { IsOf grid.now one }
-            ensures { IsOf grid.entry.now result.0 }
+            requires { IsPassOf grid.now one }
+            ensures { IsPassOf grid.entry.now result.0 }
         { stepped(alloc, grid, one, tries) },
         || -> Worked
-            requires { IsOf grid.now two }
-            ensures { IsOf grid.entry.now result.0 }
+            requires { IsPassOf grid.now two }
+            ensures { IsPassOf grid.entry.now result.0 }
         { stepped(alloc, grid, two, tries) },
     )
 }
@@ -86,22 +86,22 @@ fn four_step<R: Threads + Sync>(
     right: (Pass, Pass),
     tries: u32,
 ) -> ((Worked, Worked), (Worked, Worked))
-    requires left { IsOf grid.now left.0 × IsOf grid.now left.1 }
-    requires right { IsOf grid.now right.0 × IsOf grid.now right.1 }
-    ensures left { IsOf grid.now result.0.0.0 × IsOf grid.now result.0.1.0 }
-    ensures right { IsOf grid.now result.1.0.0 × IsOf grid.now result.1.1.0 }
+    requires left { IsPassOf grid.now left.0 × IsPassOf grid.now left.1 }
+    requires right { IsPassOf grid.now right.0 × IsPassOf grid.now right.1 }
+    ensures left { IsPassOf grid.now result.0.0.0 × IsPassOf grid.now result.0.1.0 }
+    ensures right { IsPassOf grid.now result.1.0.0 × IsPassOf grid.now result.1.1.0 }
 {
     let (one, two) = left;
     let (three, four) = right;
     join(
         rt,
         || -> (Worked, Worked)
-            requires { IsOf grid.now one × IsOf grid.now two }
-            ensures { IsOf grid.entry.now result.0.0 × IsOf grid.entry.now result.1.0 }
+            requires { IsPassOf grid.now one × IsPassOf grid.now two }
+            ensures { IsPassOf grid.entry.now result.0.0 × IsPassOf grid.entry.now result.1.0 }
         { both_step(rt, alloc, grid, one, two, tries) },
         || -> (Worked, Worked)
-            requires { IsOf grid.now three × IsOf grid.now four }
-            ensures { IsOf grid.entry.now result.0.0 × IsOf grid.entry.now result.1.0 }
+            requires { IsPassOf grid.now three × IsPassOf grid.now four }
+            ensures { IsPassOf grid.entry.now result.0.0 × IsPassOf grid.entry.now result.1.0 }
         { both_step(rt, alloc, grid, three, four, tries) },
     )
 }

@@ -1,7 +1,7 @@
 //! The calls of a grid for tests that want no more of their clauses than that the pass stays the same pass of the grid.
 
 ghost use Rattle.board_core.specs.Shows.{IsMadeFor};
-ghost use Rattle.grid_lock.specs.Passes.{IsOf, IsSamePass};
+ghost use Rattle.grid_lock.specs.Passes.{IsPassOf, IsSamePass};
 
 use board_core::{Claimed, Noted};
 use grid_lock::{Grid, Pass, TryClaim, TryDeliver, TryLook, TryRelease, TryStep};
@@ -11,9 +11,9 @@ use patch_layout::{Look, Plan};
 use source_model::Given;
 
 pub(crate) fn look(grid: &Grid, pass: &mut Pass, p: u32, look: &mut Look) -> Result<(), TryLook>
-    requires grid { IsOf grid.now pass.old }
+    requires grid { IsPassOf grid.now pass.old }
     requires made { IsMadeFor grid.now.opened look.old }
-    ensures grid { IsOf grid.now pass.new }
+    ensures grid { IsPassOf grid.now pass.new }
     ensures same { IsSamePass pass.old pass.new }
     ensures made { IsMadeFor grid.now.opened look.new }
 {
@@ -26,8 +26,8 @@ pub(crate) fn claim(
     plan: Plan,
     node: Node<Noted>,
 ) -> Result<Claimed, TryClaim>
-    requires grid { IsOf grid.now pass.old }
-    ensures grid { IsOf grid.now pass.new }
+    requires grid { IsPassOf grid.now pass.old }
+    ensures grid { IsPassOf grid.now pass.new }
     ensures same { IsSamePass pass.old pass.new }
 {
     grid.try_claim(pass, plan, node)
@@ -40,8 +40,8 @@ pub(crate) fn deliver(
     given: Given,
     node: Node<Noted>,
 ) -> Result<u32, TryDeliver>
-    requires grid { IsOf grid.now pass.old }
-    ensures grid { IsOf grid.now pass.new }
+    requires grid { IsPassOf grid.now pass.old }
+    ensures grid { IsPassOf grid.now pass.new }
     ensures same { IsSamePass pass.old pass.new }
 {
     grid.try_deliver(pass, p, given, node)
@@ -53,8 +53,8 @@ pub(crate) fn release(
     p: u32,
     node: Node<Noted>,
 ) -> Result<u32, TryRelease>
-    requires grid { IsOf grid.now pass.old }
-    ensures grid { IsOf grid.now pass.new }
+    requires grid { IsPassOf grid.now pass.old }
+    ensures grid { IsPassOf grid.now pass.new }
     ensures same { IsSamePass pass.old pass.new }
 {
     grid.try_release(pass, p, node)
@@ -66,8 +66,8 @@ pub(crate) fn step(
     f: u32,
     node: Node<Noted>,
 ) -> Result<(u32, Stepped), TryStep>
-    requires grid { IsOf grid.now pass.old }
-    ensures grid { IsOf grid.now pass.new }
+    requires grid { IsPassOf grid.now pass.old }
+    ensures grid { IsPassOf grid.now pass.new }
     ensures same { IsSamePass pass.old pass.new }
 {
     grid.try_step(pass, f, node)

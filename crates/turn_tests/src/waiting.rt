@@ -1,7 +1,7 @@
 //! What a product waits on, in one thread.
 
 ghost use Rattle.std.specs.Prelude.{◌≡◌, [], IfOk};
-ghost use Rattle.grid_lock.specs.Passes.{IsOf, IsSamePass};
+ghost use Rattle.grid_lock.specs.Passes.{IsPassOf, IsSamePass};
 
 use crate::board::{Row, board_for, open, plan_for};
 use crate::tries::{claim, deliver};
@@ -32,8 +32,8 @@ fn patches(alloc: Global) -> Result<Board, Memory>
 
 // What a product is said to wait on.
 fn says(rt: &impl Abort, grid: &Grid, pass: &mut Pass, p: u32, answer: TryWaits)
-    requires { IsOf grid.now pass.old }
-    ensures grid { IsOf grid.now pass.new }
+    requires { IsPassOf grid.now pass.old }
+    ensures grid { IsPassOf grid.now pass.new }
     ensures same { IsSamePass pass.old pass.new }
 {
     assert_eq!(rt; grid.try_waits(pass, p), answer);
@@ -47,8 +47,8 @@ fn carry_out(
     plan: Plan,
     nodes: (Node<Noted>, Node<Noted>),
 )
-    requires { IsOf grid.now pass.old }
-    ensures grid { IsOf grid.now pass.new }
+    requires { IsPassOf grid.now pass.old }
+    ensures grid { IsPassOf grid.now pass.new }
     ensures same { IsSamePass pass.old pass.new }
 {
     let claimed = claim(grid, pass, plan, nodes.0);

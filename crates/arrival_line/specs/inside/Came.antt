@@ -12,9 +12,9 @@ came Nothing = []
 came Ended = []
 came Closed = []
 
-abbrev pub next_of : Message → Next
-next_of (Arrived a) = Came a
-next_of End = Ended
+abbrev pub what_came : Message → Next
+what_came (Arrived a) = Came a
+what_came End = Ended
 
 abbrev pub IsEnd : Next → Type 0
 IsEnd (Came a) = ⊥

@@ -3,7 +3,7 @@ use Rattle.std.proofs.lemmas.List.{get_or_read}
 use Rattle.pauli_product.specs.declared.Letter.TheVariants.{I, X, Z}
 use Rattle.pauli_product.specs.Letters.{letters_clash}
 use Rattle.pauli_product.specs.Signed.{Signed, plus, commute}
-use Rattle.commute_order.specs.Columns.{IsColumns}
+use Rattle.commute_order.specs.inside.Columns.{IsColumns}
 use Rattle.commute_order.proofs.ColumnLaws.{added}
 use Rattle.commute_order.proofs.clash_row.Goals as goal
 

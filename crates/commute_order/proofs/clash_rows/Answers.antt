@@ -2,7 +2,7 @@ use Rattle.std.proofs.Common.{◌≡◌, ℕ, ◌+◌, ◌<◌, ◌≤◌, Bool,
 use Rattle.std.proofs.lemmas.List.{get_or_append_left, get_or_push}
 use Rattle.pauli_product.specs.declared.Letter.TheVariants.{X, Z}
 use Rattle.pauli_product.specs.Signed.{plus, commute}
-use Rattle.commute_order.specs.Columns.{IsColumns}
+use Rattle.commute_order.specs.inside.Columns.{IsColumns}
 use Rattle.commute_order.specs.Sharing.{mark}
 use Rattle.commute_order.proofs.clash_rows.Goals as goal
 

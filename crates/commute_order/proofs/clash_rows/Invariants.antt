@@ -2,7 +2,7 @@ use Rattle.std.proofs.Common.{◌≡◌, ℕ, ◌+◌, ◌-◌, ◌<◌, ◌≤�
 use Rattle.std.specs.Prelude.{vec_capacity}
 use Rattle.pauli_product.specs.declared.Letter.TheVariants.{X, Z}
 use Rattle.pauli_product.specs.Signed.{plus, OfLength, commute}
-use Rattle.commute_order.specs.Columns.{IsColumns}
+use Rattle.commute_order.specs.inside.Columns.{IsColumns}
 use Rattle.commute_order.specs.Sharing.{mark}
 use Rattle.commute_order.proofs.clash_rows.Given as goal
 

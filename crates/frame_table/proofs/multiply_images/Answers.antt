@@ -5,7 +5,7 @@ use Rattle.pauli_product.specs.declared.Letter.TheVariants.{I}
 use Rattle.pauli_product.specs.Signed.{Signed, plus}
 use Rattle.pauli_product.specs.Pulls.{carry, negated}
 use Rattle.pauli_product.proofs.Laws.{carry_negated}
-use Rattle.frame_table.specs.Steps.{times_letter}
+use Rattle.frame_table.specs.inside.Steps.{times_letter}
 use Rattle.frame_table.proofs.Prefix.{prefix, length_plain, prefix_whole, prefix_skips, carry_plain, next_letter}
 use Rattle.frame_table.proofs.multiply_images.Goals as goal
 use Rattle.frame_table.proofs.multiply_images.Goals.{After-sign, else-loop-from-test, then-loop-from-test+in_default}

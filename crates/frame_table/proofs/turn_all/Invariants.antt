@@ -2,7 +2,7 @@ use Rattle.std.proofs.Common.{◌≡◌, ℕ, ◌<◌, ◌≤◌, length, get_or
 use Rattle.pauli_product.specs.Signed.{Signed}
 use Rattle.pauli_product.specs.Pulls.{carry}
 use Rattle.frame_table.specs.Images.{turns_about}
-use Rattle.frame_table.specs.Steps.{IsSquare}
+use Rattle.frame_table.specs.inside.Steps.{IsSquare}
 use Rattle.frame_table.proofs.turn_all.Given as goal
 
 abbrev pub invariant-loop-image : goal.invariant-loop-image

@@ -3,7 +3,7 @@ use Rattle.pauli_product.specs.declared.Letter.TheVariants.{I}
 use Rattle.pauli_product.specs.Signed.{Signed}
 use Rattle.pauli_product.specs.Pulls.{carry}
 use Rattle.frame_table.specs.Images.{turns_about}
-use Rattle.frame_table.specs.Steps.{IsSquare}
+use Rattle.frame_table.specs.inside.Steps.{IsSquare}
 use Rattle.frame_table.proofs.turn_at.Given as goal
 
 abbrev pub invariant-loop-from : goal.invariant-loop-from

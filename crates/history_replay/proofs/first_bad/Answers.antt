@@ -4,7 +4,7 @@ use Rattle.schedule_text.specs.Lines.{version_of}
 use Rattle.history_replay.specs.declared.enter.Entered.{Entered}
 use Rattle.history_replay.specs.declared.enter.Entered.TheVariants.{Bad, UpTo}
 use Rattle.history_replay.specs.Replay.{asked}
-use Rattle.history_replay.specs.Joining.{IsEntered}
+use Rattle.history_replay.specs.inside.Joining.{IsEntered}
 use Rattle.history_replay.proofs.Verdicts.{bad_header}
 use Rattle.history_replay.proofs.Replayed.{entered_bad, closed_bad, closed_legal}
 use Rattle.history_replay.proofs.first_bad.Goals as goal

@@ -3,7 +3,7 @@ use Rattle.pauli_product.specs.Signed.{Signed}
 use Rattle.commute_order.specs.declared.Uses.{Uses}
 use Rattle.commute_order.specs.Commuting.{IsOrder}
 use Rattle.layer_pass.specs.Layering.{IsLayering, IsChain, IsTraced}
-use Rattle.layer_pass.specs.Drafts.{IsWalk}
+use Rattle.layer_pass.specs.inside.Drafts.{IsWalk}
 use Rattle.layer_pass.proofs.Tracing.{is_layering, lowest, fewest, is_traced, is_chain}
 use Rattle.layer_pass.proofs.least_layers.Goals as goal
 use Rattle.layer_pass.proofs.least_layers.Goals.{After-drop-draft-3}

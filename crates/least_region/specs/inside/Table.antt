@@ -47,10 +47,10 @@ pub record Closed (g : Grid) (free : List Bool) (limit : ℕ) (Base : ℕ → Ty
   pub united : (a b c x y n : ℕ) → Parts a b m → 0 < a → 0 < b → Entry rows a c x → Entry rows b c y
       → x + y ≡ n + 1 → n ≤ limit → AtMost row c n
 
-abbrev pub Least : Grid → List Bool → ℕ → (ℕ → Type 0) → List (List ℕ) → ℕ → List ℕ → Type 0
-Least g free limit Base rows m row = Reasoned g free limit Base rows m row × Closed g free limit Base rows m row
+abbrev pub LeastRow : Grid → List Bool → ℕ → (ℕ → Type 0) → List (List ℕ) → ℕ → List ℕ → Type 0
+LeastRow g free limit Base rows m row = Reasoned g free limit Base rows m row × Closed g free limit Base rows m row
 
 -- a table of some subsets
 abbrev pub Table : Grid → List Bool → ℕ → List Side → List (List ℕ) → Type 0
 Table g free limit sides rows = (m : ℕ) (row : List ℕ) → slice_get rows m ≡ Some row
-    → Least g free limit (IsBase g sides m) rows m row
+    → LeastRow g free limit (IsBase g sides m) rows m row

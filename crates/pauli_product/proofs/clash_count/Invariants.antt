@@ -1,6 +1,6 @@
 use Rattle.std.proofs.Common.{◌≡◌, ◌+◌, ◌*◌, ◌≤◌, drop}
 use Rattle.pauli_product.specs.Signed.{clashes}
-use Rattle.pauli_product.specs.Masks.{all_letters}
+use Rattle.pauli_product.specs.inside.Masks.{all_letters}
 use Rattle.pauli_product.proofs.clash_count.Given as goal
 
 -- going on from here gives all clashes

@@ -1,6 +1,6 @@
 use Rattle.std.proofs.Common.{◌≡◌, ◌-◌, ◌*◌, ◌++◌, length, take, replicate}
 use Rattle.pauli_product.specs.declared.Letter.TheVariants.{I}
-use Rattle.pauli_product.specs.Masks.{all_letters}
+use Rattle.pauli_product.specs.inside.Masks.{all_letters}
 use Rattle.pauli_product.proofs.fill.Given as goal
 
 -- the letters so far, and I past the last one

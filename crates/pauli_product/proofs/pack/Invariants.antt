@@ -1,6 +1,6 @@
 use Rattle.std.proofs.Common.{◌≡◌, ◌-◌, ◌++◌, take, replicate}
 use Rattle.pauli_product.specs.declared.Letter.TheVariants.{I}
-use Rattle.pauli_product.specs.Words.{word_letters}
+use Rattle.pauli_product.specs.inside.Words.{word_letters}
 use Rattle.pauli_product.proofs.pack.Given as goal
 
 -- the letters so far, and I

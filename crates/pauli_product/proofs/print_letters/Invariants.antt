@@ -1,7 +1,7 @@
 use Rattle.std.proofs.Common.{◌≡◌, ◌+◌, ◌++◌, take, vec_len, flat_map}
 use Rattle.std.specs.Prelude.{vec_capacity}
 use Rattle.pauli_product.specs.Spelling.{letter_text}
-use Rattle.pauli_product.specs.Words.{word_letters}
+use Rattle.pauli_product.specs.inside.Words.{word_letters}
 use Rattle.pauli_product.proofs.print_letters.Given as goal
 
 -- the letters so far stand

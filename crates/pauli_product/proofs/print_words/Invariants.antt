@@ -1,7 +1,7 @@
 use Rattle.std.proofs.Common.{◌≡◌, ◌+◌, ◌≤◌, ◌++◌, take, drop, vec_len, flat_map}
 use Rattle.std.specs.Prelude.{vec_capacity}
 use Rattle.pauli_product.specs.Spelling.{letter_text}
-use Rattle.pauli_product.specs.Masks.{all_letters}
+use Rattle.pauli_product.specs.inside.Masks.{all_letters}
 use Rattle.pauli_product.proofs.print_words.Given as goal
 
 -- with the letters that are left the text is whole, and there is room for it

@@ -1,5 +1,5 @@
 use Rattle.std.proofs.Common.{◌≡◌, ◌+◌, ◌*◌, ◌/◌, ◌%◌, ◌<◌, length, set, ap, ◌∙◌, arith}
-use Rattle.pauli_product.specs.Masks.{all_letters}
+use Rattle.pauli_product.specs.inside.Masks.{all_letters}
 use Rattle.pauli_product.proofs.Masks.{set-all_letters}
 use Rattle.pauli_product.proofs.put.Goals as goal
 

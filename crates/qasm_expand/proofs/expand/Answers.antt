@@ -2,7 +2,7 @@ use Rattle.std.proofs.Common.{◌≤◌, [], length, refl, sym, ap, ◌∙◌, s
 use Rattle.std.proofs.lemmas.List.{take_all}
 use Rattle.qasm_expand.specs.Flats.{flats_of, all_flats, calls_of}
 use Rattle.qasm_expand.specs.Limits.{passing, passing_from}
-use Rattle.qasm_expand.specs.Costs.{is_over, costs_of}
+use Rattle.qasm_expand.specs.inside.Costs.{is_over, costs_of}
 use Rattle.qasm_expand.proofs.Limits.{none_unless}
 use Rattle.qasm_expand.proofs.Counts.{passing-costs}
 use Rattle.qasm_expand.proofs.Bounds.{flats_bounded}

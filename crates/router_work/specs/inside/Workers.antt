@@ -3,30 +3,30 @@ use Rattle.std.specs.Prelude.{◌≡◌, ℕ, ◌+◌, ◌<◌, ◌≤◌, List,
 use Rattle.source_model.specs.declared.Given.{Given}
 use Rattle.patch_layout.specs.declared.look.Look.{Look}
 use Rattle.patch_layout.specs.Grid.{Grid}
-use Rattle.grid_lock.specs.Passes.{Known, IsOf, Named, known}
+use Rattle.grid_lock.specs.Passes.{Known, IsPassOf, NamedGrid, known}
 use Rattle.router_work.specs.Passing.{IsRouted, IsStepOf, Passed}
 use Rattle.router_work.specs.Routes.{IsByWorker}
 use Rattle.router_work.specs.declared.worker.Worker.{Worker}
 use Rattle.router_work.specs.declared.worker.Worker.TheVariants.{Route, Make}
 
 -- pass 0 of the grid, between two calls, which has split off n passes
-abbrev pub IsFirst : Named → ℕ → Known → Type 0
-IsFirst g n p = IsOf g p × (p.view.number ≡ 0) × (p.view.made ≡ n)
+abbrev pub IsFirst : NamedGrid → ℕ → Known → Type 0
+IsFirst g n p = IsPassOf g p × (p.view.number ≡ 0) × (p.view.made ≡ n)
 
 -- it split off n passes more
 abbrev pub HasSplit : Known → ℕ → Known → Type 0
 HasSplit p n q = q ≡ known p.grid (record p.view { made = p.view.made + n })
 
 -- the pass is of the grid, its number is above a and at most c, and it made nothing yet
-pub record IsNew (g : Named) (a c : ℕ) (p : Known) : Type 0 where
-  pub of : IsOf g p
+pub record IsNew (g : NamedGrid) (a c : ℕ) (p : Known) : Type 0 where
+  pub of : IsPassOf g p
   pub above : a < p.view.number
   pub most : p.view.number ≤ c
   pub empty : p.view.mine ≡ []
 
 -- a pass after the work: each entry that it made is a worker's
-pub record IsBack (g : Named) (given : List Given) (k : ℕ) (p : Known) : Type 0 where
-  pub of : IsOf g p
+pub record IsBack (g : NamedGrid) (given : List Given) (k : ℕ) (p : Known) : Type 0 where
+  pub of : IsPassOf g p
   pub mine : All (IsByWorker given k) p.view.mine
 
 -- the look was made for this layout and so many qubits
@@ -51,12 +51,12 @@ module _ {G : Type 0} where
         Worked (slice_index_or before i d) (slice_index_or after i d)
 
   -- a worker before its work: routers have the numbers 1 to k, and makers the next ones
-  abbrev pub IsHired : Named → List Given → ℕ → Worker G → Type 0
+  abbrev pub IsHired : NamedGrid → List Given → ℕ → Worker G → Type 0
   IsHired g given k (Route r) = (r.given ≡ given) × IsNew g 0 k r.pass
   IsHired g given k (Make m) = IsNew g k (k + 16) m.pass
 
   -- makers came after the workers that there were
-  abbrev pub HireMakers : Named → List (Worker G) → List (Worker G) → Type 0
+  abbrev pub HireMakers : NamedGrid → List (Worker G) → List (Worker G) → Type 0
   HireMakers g before after =
       (more : List (Worker G)) × (after ≡ before ++ more)
       × ((given : List Given) → All (IsHired g given (length before)) more)

@@ -10,18 +10,18 @@ use Rattle.job_read.specs.Jobs.{CircuitStops}
 use Rattle.job_read.specs.Kept.{IsJob}
 use Rattle.job_read.specs.Shelves.{Shelved, seen_on}
 use Rattle.side_by_side.specs.Programs.{IsProgram}
-use Rattle.run_top.specs.declared.fault.Fault.{Fault}
-use Rattle.run_top.specs.declared.fault.Fault.TheVariants as fault
+use Rattle.run_top.specs.declared.fault.RunFault.{RunFault}
+use Rattle.run_top.specs.declared.fault.RunFault.TheVariants as fault
 use Rattle.run_top.specs.Sides.{Sides, StandForSides, circuit_at, joined_job, outcomes_at, programs_of}
 use Rattle.run_top.specs.SideFaults.{AreTooMany, StopsAtCircuit, StopsAtOutcomes, TableStops}
 
 -- ---- one program
 -- a fault of the circuit of program i
-abbrev pub StopsOne : Shelved → List (List ℕ) → ℕ → Fault → Type 0
+abbrev pub StopsOne : Shelved → List (List ℕ) → ℕ → RunFault → Type 0
 StopsOne r names i e = (f : JobFault) × (e ≡ fault.Program i f) × CircuitStops (seen_on r (circuit_at names i)) f
 
 -- a fault of the outcomes of program i
-abbrev pub StopsTable : Shelved → List (List ℕ) → ℕ → Circuit → Grid → Fault → Type 0
+abbrev pub StopsTable : Shelved → List (List ℕ) → ℕ → Circuit → Grid → RunFault → Type 0
 StopsTable r names i c g e = (f : JobFault) × (e ≡ fault.Program i f) × TableStops (seen_on r (outcomes_at names i)) i c g f
 
 -- the outcomes are of the kinds of the circuit's products
@@ -33,17 +33,17 @@ abbrev pub AreTablesFor : List Circuit → List Outcomes → Type 0
 AreTablesFor cs os = (i : ℕ) (c : Circuit) (o : Outcomes) → slice_get cs i ≡ Some c → slice_get os i ≡ Some o → IsTableOf c o
 
 -- ---- all programs
-abbrev pub CircuitsStop : Shelved → List (List ℕ) → Fault → Type 0
+abbrev pub CircuitsStop : Shelved → List (List ℕ) → RunFault → Type 0
 CircuitsStop r names (fault.Program i f) = StopsAtCircuit r names i f
 CircuitsStop r names fault.Memory = Unit {0}
 CircuitsStop r names _ = ⊥
 
-abbrev pub JoinStops : List Circuit → Fault → Type 0
+abbrev pub JoinStops : List Circuit → RunFault → Type 0
 JoinStops cs (fault.Job f) = AreTooMany cs f
 JoinStops cs fault.Memory = Unit {0}
 JoinStops cs _ = ⊥
 
-abbrev pub TablesStop : Shelved → List (List ℕ) → List Circuit → Grid → Fault → Type 0
+abbrev pub TablesStop : Shelved → List (List ℕ) → List Circuit → Grid → RunFault → Type 0
 TablesStop r names cs g (fault.Program i f) = StopsAtOutcomes r names cs g i f
 TablesStop r names cs g fault.Memory = Unit {0}
 TablesStop r names cs g _ = ⊥

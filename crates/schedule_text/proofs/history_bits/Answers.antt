@@ -2,13 +2,13 @@ use Rattle.std.proofs.Common.{◌≡◌, ℕ, ◌+◌, ◌<◌, length, take, dr
 use Rattle.std.specs.Prelude.{map}
 use Rattle.std.specs.List.{range_with_len}
 use Rattle.std.proofs.lemmas.List.{length-replicate, get_or-replicate}
-use Rattle.source_model.specs.Bits.{bit_behind, effective_outcomes}
+use Rattle.source_model.specs.Bits.{bit_after_products, effective_outcomes}
 use Rattle.source_model.specs.Circuits.{bits_in, kinds}
 use Rattle.source_model.specs.SourceRun.{axes, bit_after}
 use Rattle.source_model.specs.Statics.{kinds_of}
 use Rattle.source_model.proofs.SameKinds.{statics_keep_kinds}
 use Rattle.board_core.specs.History.{entries}
-use Rattle.schedule_text.specs.Bits.{turned_round}
+use Rattle.schedule_text.specs.inside.Bits.{turned_round}
 use Rattle.schedule_text.proofs.LastWritten.{behind_agrees, are_values, take_first}
 use Rattle.schedule_text.proofs.OneRun.{run_agrees}
 use Rattle.schedule_text.proofs.history_bits.Goals as goal
@@ -37,7 +37,7 @@ returns-clause-bits c = λ grid fails table right is.
     let each : (k : ℕ) → k < length bits → get_or bits k false ≡ bit_after items table (0 + k) = λ k low.
     let start : k ≡ 0 + k = omega arith in
     c.write.ensures.each k (omega (arith, low, c.write.ensures.count))
-    ∙ (ap₂ (λ v ks. bit_behind v k ks outcomes) (ap (λ bs. get_or bs k false) cleared ∙ get_or-replicate size k false false (omega (arith, low, count))) kept
+    ∙ (ap₂ (λ v ks. bit_after_products v k ks outcomes) (ap (λ bs. get_or bs k false) cleared ∙ get_or-replicate size k false false (omega (arith, low, count))) kept
     ∙ (behind_agrees k false (kinds items) outcomes (effective_outcomes (axes items table) table) (run_agrees items grid fails table (entries c.args.history.now) (length c.args.products.now) signs raws k right is (ap length c.requires.products) c.in_ok-said.ensures.signs c.in_ok-said.ensures.raws)
     ∙ (sym (c.law_bits.ensures items table k right) ∙ ap (bit_after items table) start))) in
     ap (λ m. take m (bits ++ drop (length bits) c.in_ok-bits.bits.items)) (c.in_ok-bits.ensures.len ∙ sym count)

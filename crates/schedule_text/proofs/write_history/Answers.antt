@@ -2,7 +2,7 @@ use Rattle.std.proofs.Common.{◌∷◌, [], ◌++◌}
 use Rattle.std.specs.Prelude.{flat_map}
 use Rattle.std.proofs.lemmas.List.{append-nil}
 use Rattle.schedule_text.specs.Text.{text_of, bits_text, bit_in, header_line, two}
-use Rattle.schedule_text.specs.Pens.{entry_text}
+use Rattle.schedule_text.specs.inside.Pens.{entry_text}
 use Rattle.schedule_text.proofs.Pieces.{text_parts}
 use Rattle.patch_base.proofs.Passing.{passes_start, passes_put, passes_then, began_first, grew_all, began_all, on_err, map_ok, map_err}
 use Rattle.schedule_text.proofs.write_history.Goals as goal

@@ -1,5 +1,5 @@
 use Rattle.std.proofs.Common.{arith}
-use Rattle.board_core.specs.Bits.{value_in}
+use Rattle.board_core.specs.inside.Bits.{value_in}
 use Rattle.board_core.proofs.Digits.{not_unequal, read_value, spells_on}
 use Rattle.board_core.proofs.bits.spells.Goals as goal
 

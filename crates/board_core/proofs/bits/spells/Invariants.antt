@@ -1,6 +1,6 @@
 use Rattle.std.proofs.Common.{◌≡◌, ◌+◌, ◌-◌, ◌==◌}
 use Rattle.pauli_product.specs.Bits.{number_of}
-use Rattle.board_core.specs.Bits.{value_in}
+use Rattle.board_core.specs.inside.Bits.{value_in}
 use Rattle.board_core.proofs.bits.spells.Given as goal
 
 abbrev pub invariant-loop-at : goal.invariant-loop-at

@@ -1,5 +1,5 @@
 use Rattle.std.proofs.Common.{◌≡◌, ℕ, ◌+◌, length, arith, subst}
-use Rattle.board_core.specs.Cells.{IsCellBelow, LeastTaken}
+use Rattle.board_core.specs.inside.Cells.{IsCellBelow, LeastTaken}
 use Rattle.board_core.proofs.CellTables.{patch_within, least_patch_next}
 use Rattle.board_core.proofs.cells.least_of_patches.Goals as goal
 

@@ -1,5 +1,5 @@
 use Rattle.std.proofs.Common.{ℕ, ◌+◌, List, Option, length}
-use Rattle.board_core.specs.Cells.{IsCellBelow, LeastTaken}
+use Rattle.board_core.specs.inside.Cells.{IsCellBelow, LeastTaken}
 use Rattle.board_core.proofs.cells.least_of_patches.Given as goal
 
 abbrev pub invariant-loop-qubit : goal.invariant-loop-qubit

@@ -1,6 +1,6 @@
 use Rattle.std.proofs.Common.{◌≡◌, ℕ, length, arith, subst}
 use Rattle.std.proofs.lemmas.Option.{slice_get-get_or}
-use Rattle.board_core.specs.Cells.{IsCellBelow, LeastTaken}
+use Rattle.board_core.specs.inside.Cells.{IsCellBelow, LeastTaken}
 use Rattle.board_core.proofs.CellTables.{least_region_next}
 use Rattle.board_core.proofs.cells.least_of_region.Goals as goal
 

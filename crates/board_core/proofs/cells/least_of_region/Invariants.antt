@@ -1,7 +1,7 @@
 use Rattle.std.proofs.Common.{ℕ, Option}
 use Rattle.pauli_product.specs.Signed.{Signed}
 use Rattle.patch_layout.specs.Grid.{Grid}
-use Rattle.board_core.specs.Cells.{IsCellBelow, LeastTaken}
+use Rattle.board_core.specs.inside.Cells.{IsCellBelow, LeastTaken}
 use Rattle.board_core.proofs.cells.least_of_region.Given as goal
 
 abbrev pub invariant-loop-cell : goal.invariant-loop-cell

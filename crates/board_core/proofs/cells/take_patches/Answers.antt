@@ -1,5 +1,5 @@
 use Rattle.std.proofs.Common.{◌≡◌, ℕ, ◌+◌, length, ap, sym, ◌∙◌, arith, subst}
-use Rattle.board_core.specs.Cells.{IsCellBelow, Taken}
+use Rattle.board_core.specs.inside.Cells.{IsCellBelow, Taken}
 use Rattle.board_core.proofs.CellTables.{length_given, patch_within, take_patch_next}
 use Rattle.board_core.proofs.cells.take_patches.Goals as goal
 

@@ -1,5 +1,5 @@
 use Rattle.std.proofs.Common.{◌≡◌, ℕ, ◌+◌, List, Option, length}
-use Rattle.board_core.specs.Cells.{IsCellBelow, Taken}
+use Rattle.board_core.specs.inside.Cells.{IsCellBelow, Taken}
 use Rattle.board_core.proofs.cells.take_patches.Given as goal
 
 abbrev pub invariant-loop-qubit : goal.invariant-loop-qubit

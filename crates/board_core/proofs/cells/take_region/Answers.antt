@@ -1,7 +1,7 @@
 use Rattle.std.proofs.Common.{◌≡◌, ℕ, length, ap, ◌∙◌, arith, subst}
 use Rattle.std.proofs.Math.ListN.{length-set}
 use Rattle.std.proofs.lemmas.Option.{slice_get-get_or}
-use Rattle.board_core.specs.Cells.{IsCellBelow, Taken}
+use Rattle.board_core.specs.inside.Cells.{IsCellBelow, Taken}
 use Rattle.board_core.proofs.CellTables.{take_region_next}
 use Rattle.board_core.proofs.cells.take_region.Goals as goal
 

@@ -1,5 +1,5 @@
 use Rattle.std.proofs.Common.{◌≡◌, ℕ, ◌<◌, ◌≤◌, length, slice_get, option_map}
-use Rattle.board_core.specs.Cells.{without}
+use Rattle.board_core.specs.inside.Cells.{without}
 use Rattle.board_core.proofs.holders.free_between.Given as goal
 
 abbrev pub invariant-loop-cell : goal.invariant-loop-cell

@@ -1,6 +1,6 @@
 use Rattle.std.proofs.Common.{length, subst}
 use Rattle.source_model.specs.declared.Kind.{Kind}
-use Rattle.board_core.specs.Books.{NamesBelow}
+use Rattle.board_core.specs.inside.Books.{NamesBelow}
 use Rattle.board_core.proofs.Delivering.{rotation_done, measure_done, settle_done}
 use Rattle.board_core.proofs.ledger.note_outcome.Goals as goal
 

@@ -1,7 +1,8 @@
 use Rattle.std.proofs.Common.{◌≡◌, ◌||◌, Bool, List, length, ap, sym, subst, ◌∙◌, get_or, arith}
 use Rattle.std.proofs.lemmas.List.{with_items_is}
 use Rattle.commute_order.specs.Commuting.{IsOrder}
-use Rattle.commute_order.specs.Sharing.{mark, shares_bit}
+use Rattle.commute_order.specs.Sharing.{mark}
+use Rattle.commute_order.specs.inside.Sharing.{shares_bit}
 use Rattle.commute_order.proofs.SharingLaws.{no_uses, row_mark}
 use Rattle.commute_order.proofs.Order.build.Goals as goal
 

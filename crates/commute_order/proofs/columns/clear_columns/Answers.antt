@@ -1,7 +1,7 @@
 use Rattle.std.proofs.Common.{Bool, false, List, length, get_or, ap, ◌∙◌, arith}
 use Rattle.std.proofs.lemmas.List.{get_or-replicate, length-replicate}
 use Rattle.pauli_product.specs.Letters.{letters_clash}
-use Rattle.commute_order.specs.Columns.{letter_in}
+use Rattle.commute_order.specs.inside.Columns.{letter_in}
 use Rattle.commute_order.proofs.ColumnLaws.{none_before}
 use Rattle.commute_order.proofs.columns.clear_columns.Goals as goal
 

@@ -4,7 +4,7 @@ use Rattle.std.proofs.lemmas.Option.{get_or_from_slice_get}
 use Rattle.pauli_product.specs.declared.Letter.TheVariants.{I}
 use Rattle.pauli_product.specs.Signed.{plus}
 use Rattle.pauli_product.specs.Corrections.{xor}
-use Rattle.commute_order.specs.Columns.{clash_bit}
+use Rattle.commute_order.specs.inside.Columns.{clash_bit}
 use Rattle.commute_order.proofs.ColumnLaws.{odd, odd_commute, next_mark}
 use Rattle.commute_order.proofs.columns.mark_clashes.Goals as goal
 

@@ -1,7 +1,7 @@
 use Rattle.std.proofs.Common.{◌≡◌, ℕ, ◌+◌, ◌≤◌, false, List, [], length, take, get_or}
 use Rattle.pauli_product.specs.declared.Letter.TheVariants.{X, Z}
 use Rattle.pauli_product.specs.Signed.{Signed, plus}
-use Rattle.commute_order.specs.Columns.{IsColumns}
+use Rattle.commute_order.specs.inside.Columns.{IsColumns}
 use Rattle.commute_order.proofs.ColumnLaws.{odd}
 use Rattle.commute_order.proofs.columns.mark_clashes.Given as goal
 

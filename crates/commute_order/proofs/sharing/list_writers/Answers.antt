@@ -1,7 +1,7 @@
 use Rattle.std.proofs.Common.{◌≡◌, ◌+◌, ◌<◌, length, get_or, sym, ap, subst, ◌∙◌}
 use Rattle.std.proofs.lemmas.List.{get_or_default}
 use Rattle.commute_order.specs.declared.Uses.{Uses}
-use Rattle.commute_order.specs.Sharing.{ListsWriters}
+use Rattle.commute_order.specs.inside.Sharing.{ListsWriters}
 use Rattle.commute_order.proofs.WriterLists.{with_writer, without_writer}
 use Rattle.commute_order.proofs.SharingLaws.{no_uses}
 use Rattle.commute_order.proofs.sharing.list_writers.Goals as goal

@@ -3,7 +3,8 @@ use Rattle.std.proofs.lemmas.List.{get_or_default}
 use Rattle.std.proofs.lemmas.List.Elements.{All-contains}
 use Rattle.commute_order.specs.declared.Uses.{Uses}
 use Rattle.commute_order.specs.declared.sharing.Writer.{Writer}
-use Rattle.commute_order.specs.Commuting.{reads_bit, reads_from}
+use Rattle.commute_order.specs.Commuting.{reads_from}
+use Rattle.commute_order.specs.inside.Commuting.{reads_bit}
 use Rattle.commute_order.proofs.SharingLaws.{no_uses, reader_marks}
 use Rattle.commute_order.proofs.sharing.mark_reader.Goals as goal
 

@@ -1,6 +1,7 @@
 use Rattle.std.proofs.Common.{◌≡◌, ℕ, ◌<◌, ◌≤◌, ◌||◌, length}
 use Rattle.commute_order.specs.declared.Uses.{Uses}
-use Rattle.commute_order.specs.Sharing.{IsTriangle, mark}
+use Rattle.commute_order.specs.Sharing.{mark}
+use Rattle.commute_order.specs.inside.Sharing.{IsTriangle}
 use Rattle.commute_order.proofs.SharingLaws.{shared_by}
 use Rattle.commute_order.proofs.sharing.mark_readers.Given as goal
 

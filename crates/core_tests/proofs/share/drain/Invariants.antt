@@ -1,5 +1,5 @@
-use Rattle.number_share.specs.Hands.{IsOf}
+use Rattle.number_share.specs.Hands.{IsHandOf}
 use Rattle.core_tests.proofs.share.drain.Given as goal
 
 abbrev pub invariant-loop : goal.invariant-loop
-invariant-loop l = IsOf l.share l.hand
+invariant-loop l = IsHandOf l.share l.hand

@@ -1,7 +1,7 @@
 -- The three parts go on from one another.
 use Rattle.std.proofs.Common.{length}
 use Rattle.board_core.specs.Position.{past}
-use Rattle.finish_run.specs.Finished.{DoneBelow}
+use Rattle.finish_run.specs.inside.Finished.{DoneBelow}
 use Rattle.finish_run.specs.Next.{never}
 use Rattle.finish_run.proofs.Onward.{goes_any, goes_more}
 use Rattle.finish_run.proofs.Carried.{outcomes_same}

@@ -4,7 +4,7 @@ use Rattle.source_model.specs.declared.Given.{Given}
 use Rattle.patch_layout.specs.Grid.{Grid}
 use Rattle.patch_layout.specs.Openness.{Least}
 use Rattle.board_core.specs.declared.Entry.TheVariants.{Step}
-use Rattle.board_core.specs.Legal.{Job}
+use Rattle.board_core.specs.Legal.{BoardJob}
 use Rattle.board_core.specs.Position.{Position, with_entry}
 use Rattle.finish_run.specs.Next.{IsFactory, NoStates, IsTurnOf, IsRotation, never}
 use Rattle.finish_run.specs.Finished.{GoesOn}
@@ -20,7 +20,7 @@ least_factory-factory-requires c =
 
 -- the least factory is the one of the layout at each place
 least : (b d : Position) (g : Grid) (f : ℕ) → g ≡ b.job.grid → d.job ≡ b.job → Least (IsFactory g) f → Least (IsFactory d.job.grid) f
-least b d g f e s x = least_same g d.job.grid f (e ∙ ap (λ (j : Job). j.grid) (sym s)) x
+least b d g f e s x = least_same g d.job.grid f (e ∙ ap (λ (j : BoardJob). j.grid) (sym s)) x
 
 pub step-requires : goal.step-requires
 step-requires c =

@@ -1,5 +1,6 @@
 use Rattle.board_core.specs.Position.{past, IsLegal}
-use Rattle.finish_run.specs.Next.{IsPending, NoneBelow, never}
+use Rattle.finish_run.specs.Next.{IsPending, never}
+use Rattle.finish_run.specs.inside.Next.{NoneBelow}
 use Rattle.finish_run.specs.Finished.{GoesOn}
 use Rattle.finish_run.proofs.phases.deliver_claimed.Given as goal
 

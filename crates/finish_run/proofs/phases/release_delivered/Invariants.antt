@@ -1,7 +1,8 @@
 use Rattle.std.proofs.Common.{List}
 use Rattle.source_model.specs.declared.Given.{Given}
 use Rattle.board_core.specs.Position.{past, IsLegal}
-use Rattle.finish_run.specs.Next.{IsPending, IsUnreleased, NoneBelow, NoneIs, never}
+use Rattle.finish_run.specs.Next.{IsPending, IsUnreleased, NoneIs, never}
+use Rattle.finish_run.specs.inside.Next.{NoneBelow}
 use Rattle.finish_run.specs.Finished.{GoesOn}
 use Rattle.finish_run.proofs.phases.release_delivered.Given as goal
 

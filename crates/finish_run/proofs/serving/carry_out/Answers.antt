@@ -6,7 +6,7 @@ use Rattle.source_model.specs.declared.Given.{Given}
 use Rattle.source_model.specs.declared.Given.TheVariants.{Measure, Rotation, Settled}
 use Rattle.board_core.specs.History.{done_place}
 use Rattle.board_core.specs.Position.{past}
-use Rattle.finish_run.specs.Finished.{DoneBelow}
+use Rattle.finish_run.specs.inside.Finished.{DoneBelow}
 use Rattle.finish_run.specs.Next.{never}
 use Rattle.finish_run.proofs.Onward.{goes_any}
 use Rattle.finish_run.proofs.Rest.{below_on, done_already, done_to, is_product, on_ok, turn_of}

@@ -1,5 +1,6 @@
 use Rattle.board_core.specs.Position.{past, IsLegal}
-use Rattle.finish_run.specs.Finished.{DoneBelow, GoesOn}
+use Rattle.finish_run.specs.Finished.{GoesOn}
+use Rattle.finish_run.specs.inside.Finished.{DoneBelow}
 use Rattle.board_core.specs.Shows.{IsMadeFor}
 use Rattle.finish_run.specs.Next.{IsIdle}
 use Rattle.finish_run.proofs.serving.carry_out_rest.Given as goal

@@ -1,6 +1,6 @@
 use Rattle.std.proofs.Common.{◌≡◌, ◌≤◌, ◌-◌, length, drop}
 use Rattle.schedule_text.specs.Lines.{version_of}
-use Rattle.history_replay.specs.Joining.{Begins}
+use Rattle.history_replay.specs.inside.Joining.{Begins}
 use Rattle.history_replay.proofs.enter.enter_all.Given as goal
 
 abbrev pub invariant-loop-ended : goal.invariant-loop-ended

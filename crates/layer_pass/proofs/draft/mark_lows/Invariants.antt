@@ -1,6 +1,6 @@
 use Rattle.std.proofs.Common.{◌≡◌, ℕ, ◌<◌, ◌≤◌, get_or}
 use Rattle.layer_pass.specs.declared.draft.Low.{Low}
-use Rattle.layer_pass.specs.Lows.{marked}
+use Rattle.layer_pass.specs.inside.Lows.{marked}
 use Rattle.layer_pass.proofs.draft.mark_lows.Given as goal
 
 abbrev pub invariant-loop-low : goal.invariant-loop-low

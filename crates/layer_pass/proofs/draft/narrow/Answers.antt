@@ -1,5 +1,5 @@
 use Rattle.std.proofs.Common.{◌<◌, None, length, sym, subst, arith}
-use Rattle.layer_pass.specs.Lows.{IsLow}
+use Rattle.layer_pass.specs.inside.Lows.{IsLow}
 use Rattle.layer_pass.proofs.Sets.{least_above, reach_silent}
 use Rattle.layer_pass.proofs.draft.narrow.Goals as goal
 

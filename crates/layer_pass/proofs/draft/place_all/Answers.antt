@@ -2,8 +2,8 @@ use Rattle.std.proofs.Common.{◌≡◌, ℕ, ◌+◌, ◌<◌, ◌≤◌, List,
 use Rattle.std.proofs.lemmas.List.{length_push, with_items_is}
 use Rattle.std.proofs.lemmas.List.Elements.{All-push}
 use Rattle.layer_pass.specs.declared.draft.Low.{Low}
-use Rattle.layer_pass.specs.Drafts.{IsPlace, IsFilled, IsDraft}
-use Rattle.layer_pass.specs.Lows.{IsLow, marked}
+use Rattle.layer_pass.specs.inside.Drafts.{IsPlace, IsFilled, IsDraft}
+use Rattle.layer_pass.specs.inside.Lows.{IsLow, marked}
 use Rattle.layer_pass.proofs.Rows.{filled_more, rows_more, rows_grow}
 use Rattle.layer_pass.proofs.Placing.{draft_more}
 use Rattle.layer_pass.proofs.Sets.{lows_more, marked_within}

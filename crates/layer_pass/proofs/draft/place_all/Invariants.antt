@@ -3,8 +3,8 @@ use Rattle.pauli_product.specs.Signed.{Signed}
 use Rattle.commute_order.specs.declared.Uses.{Uses}
 use Rattle.commute_order.specs.Commuting.{IsOrder}
 use Rattle.layer_pass.specs.declared.draft.Low.{Low}
-use Rattle.layer_pass.specs.Drafts.{IsFilled, IsDraft}
-use Rattle.layer_pass.specs.Lows.{IsLow}
+use Rattle.layer_pass.specs.inside.Drafts.{IsFilled, IsDraft}
+use Rattle.layer_pass.specs.inside.Lows.{IsLow}
 use Rattle.layer_pass.proofs.draft.place_all.Given as goal
 
 abbrev pub invariant-loop-p : goal.invariant-loop-p

@@ -2,7 +2,7 @@ use Rattle.std.proofs.Common.{◌≡◌, ℕ, ◌<◌, ◌≤◌, List, [], get_
 use Rattle.pauli_product.specs.Signed.{Signed}
 use Rattle.commute_order.specs.declared.Uses.{Uses}
 use Rattle.commute_order.specs.Commuting.{IsOrder}
-use Rattle.layer_pass.specs.Drafts.{first_clash_of}
+use Rattle.layer_pass.specs.inside.Drafts.{first_clash_of}
 use Rattle.layer_pass.proofs.draft.place_between.Given as goal
 
 abbrev pub invariant-loop-k : goal.invariant-loop-k

@@ -2,8 +2,8 @@ use Rattle.std.proofs.Common.{◌≡◌, ℕ, ◌-◌, ◌<◌, ◌≤◌, List,
 use Rattle.pauli_product.specs.Signed.{Signed}
 use Rattle.commute_order.specs.declared.Uses.{Uses}
 use Rattle.commute_order.specs.Commuting.{IsOrder}
-use Rattle.layer_pass.specs.Drafts.{first_clash_of}
-use Rattle.layer_pass.specs.Lows.{IsReach}
+use Rattle.layer_pass.specs.inside.Drafts.{first_clash_of}
+use Rattle.layer_pass.specs.inside.Lows.{IsReach}
 use Rattle.layer_pass.proofs.draft.search.Given as goal
 
 abbrev pub invariant-loop-reach : goal.invariant-loop-reach

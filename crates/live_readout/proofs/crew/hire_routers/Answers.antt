@@ -14,7 +14,7 @@ new-router-requires-clause-look g c κs within =
 
 pub new-router-requires-clause-hand : goal.new-router-requires-clause-hand
 new-router-requires-clause-hand g c κs within =
-    (All-pop (shares.IsOf c.args.shared.now.share.now) c.loop-gate.hands.items c.pop-in-Some.new.self.items (Some c.in-Some-Some.hand) c.in-Some-Some.ensures.items c.loop-gate.invariant.hands).1
+    (All-pop (shares.IsHandOf c.args.shared.now.share.now) c.loop-gate.hands.items c.pop-in-Some.new.self.items (Some c.in-Some-Some.hand) c.in-Some-Some.ensures.items c.loop-gate.invariant.hands).1
 
 pub loop-gate-preserved : goal.loop-gate-preserved
 loop-gate-preserved g c =
@@ -31,7 +31,7 @@ loop-gate-preserved g c =
     let all = at.invariant.count in
     let new = new_pass grid 0 0 n (length at.workers.items) c.args.first.now at.first c.new-router.result c.requires.first at.invariant.first (c.new-router.ensures ∙ c.next_pass-pass.ensures.new) (omega arith) (omega arith) in
     record {
-      hands = (All-pop (shares.IsOf c.args.shared.now.share.now) at.hands.items c.pop-in-Some.new.self.items (Some c.in-Some-Some.hand) c.in-Some-Some.ensures.items at.invariant.hands).0;
+      hands = (All-pop (shares.IsHandOf c.args.shared.now.share.now) at.hands.items c.pop-in-Some.new.self.items (Some c.in-Some-Some.hand) c.in-Some-Some.ensures.items at.invariant.hands).0;
       hand_each = omega arith;
       looks = (All-pop (IsMadeFor grid.opened) at.looks.items c.pop-in-Some-2.new.self.items (Some c.in-Some-Some.look) c.in-Some-Some.ensures'.items at.invariant.looks).0;
       look_each = omega arith;

@@ -8,7 +8,7 @@ use Rattle.live_readout.proofs.crew.hire_routers.Given as goal
 
 abbrev pub invariant-loop-gate : goal.invariant-loop-gate
 invariant-loop-gate g l = record {
-  hands : All (shares.IsOf l.shared.share.now) l.hands.items;
+  hands : All (shares.IsHandOf l.shared.share.now) l.hands.items;
   hand_each : length l.hands.items ≡ length l.gates.items;
   looks : All (IsMadeFor l.shared.grid.now.opened) l.looks.items;
   look_each : length l.looks.items ≡ length l.gates.items;

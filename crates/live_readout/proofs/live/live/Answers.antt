@@ -1,9 +1,9 @@
 use Rattle.std.proofs.Common.{Ok, Err}
-use Rattle.live_readout.specs.Commands.{command}
+use Rattle.live_readout.specs.inside.Commands.{command}
 use Rattle.fault_lines.specs.Sinks.{writing}
 use Rattle.job_read.specs.Shelves.{shelved}
 use Rattle.live_readout.specs.declared.fault.LiveFault.{LiveFault}
-use Rattle.live_readout.specs.Ends.{EndsBy}
+use Rattle.live_readout.specs.inside.Ends.{EndsBy}
 use Rattle.live_readout.proofs.Asking.{by_job, ends_by}
 use Rattle.live_readout.proofs.Ending.{live_attempt, done_job, done_write, stopped_ends}
 use Rattle.live_readout.proofs.live.live.Goals as goal

@@ -1,5 +1,5 @@
 use Rattle.std.proofs.Common.{rules, ap}
-use Rattle.number_share.specs.Plays.{Sat}
+use Rattle.number_share.specs.inside.Plays.{Sat}
 use Rattle.number_share.proofs.Keeps.{deals}
 use Rattle.number_share.proofs.share.deal.Goals as goal
 

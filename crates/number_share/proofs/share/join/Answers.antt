@@ -1,6 +1,6 @@
 use Rattle.std.proofs.Common.{rules, ◌≡◌, ap, sym, ◌∙◌, subst}
 use Rattle.number_share.specs.declared.view.View.{View}
-use Rattle.number_share.specs.Plays.{Sat}
+use Rattle.number_share.specs.inside.Plays.{Sat}
 use Rattle.number_share.specs.Hands.{Owner}
 use Rattle.number_share.proofs.Keeps.{joins}
 use Rattle.number_share.proofs.Ends.{all_front, all_last, StandsFor, stands_first, stands_more}

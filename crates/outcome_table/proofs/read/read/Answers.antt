@@ -2,7 +2,7 @@ use Rattle.std.proofs.Common.{List, inl, inr, sym, ◌∙◌, subst, arith, Opti
 use Rattle.source_model.specs.declared.Given.{Given}
 use Rattle.magic_pool.specs.declared.Fail.{Fail}
 use Rattle.outcome_table.specs.OutcomeText.{Asked, StandsFor}
-use Rattle.outcome_table.specs.Drafts.{IsFirstEmpty}
+use Rattle.outcome_table.specs.inside.Drafts.{IsFirstEmpty}
 use Rattle.std.proofs.lemmas.Result.{err_from_is_err_and}
 use Rattle.outcome_table.proofs.Reading.{misses, stands}
 use Rattle.outcome_table.proofs.read.read.Goals as goal

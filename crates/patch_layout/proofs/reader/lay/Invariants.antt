@@ -1,4 +1,4 @@
-use Rattle.patch_layout.specs.Reading.{Lays}
+use Rattle.patch_layout.specs.inside.Reading.{Lays}
 use Rattle.patch_layout.proofs.reader.lay.Given as goal
 
 abbrev pub invariant-loop-line : goal.invariant-loop-line

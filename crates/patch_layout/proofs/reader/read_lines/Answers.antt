@@ -1,7 +1,7 @@
 use Rattle.std.proofs.Common.{List, drop, sym, subst, arith}
 use Rattle.patch_base.specs.Texts.{lines}
 use Rattle.patch_layout.specs.declared.line.Line.{Line}
-use Rattle.patch_layout.specs.Reading.{Keyed}
+use Rattle.patch_layout.specs.inside.Reading.{Keyed}
 use Rattle.patch_layout.proofs.Bodies.{Reads, reads_first, reads_more, reads_bad}
 use Rattle.patch_layout.proofs.reader.read_lines.Goals as goal
 

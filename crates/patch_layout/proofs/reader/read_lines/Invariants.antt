@@ -1,6 +1,6 @@
 use Rattle.std.proofs.Common.{◌+◌, ◌-◌, ◌≤◌, length, drop}
 use Rattle.patch_base.specs.Texts.{lines}
-use Rattle.patch_layout.specs.Reading.{Keyed}
+use Rattle.patch_layout.specs.inside.Reading.{Keyed}
 use Rattle.patch_layout.proofs.Bodies.{Reads}
 use Rattle.patch_layout.proofs.reader.read_lines.Given as goal
 

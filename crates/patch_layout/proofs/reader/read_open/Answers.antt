@@ -1,7 +1,7 @@
 use Rattle.std.proofs.Common.{List, sym, subst}
 use Rattle.patch_base.specs.Texts.{lines}
 use Rattle.patch_layout.specs.declared.line.Line.{Line}
-use Rattle.patch_layout.specs.Reading.{Proper}
+use Rattle.patch_layout.specs.inside.Reading.{Proper}
 use Rattle.patch_layout.proofs.Bodies.{proper_formed}
 use Rattle.patch_layout.proofs.reader.read_open.Goals as goal
 

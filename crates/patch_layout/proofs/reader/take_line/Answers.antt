@@ -1,7 +1,7 @@
 use Rattle.std.proofs.Common.{List, sym, subst, arith}
 use Rattle.std.proofs.lemmas.Bool.{false≢true}
 use Rattle.patch_layout.specs.declared.line.Line.{Line}
-use Rattle.patch_layout.specs.Reading.{Keyed}
+use Rattle.patch_layout.specs.inside.Reading.{Keyed}
 use Rattle.patch_layout.proofs.Bodies.{keyed_more, stale_breaks}
 use Rattle.patch_layout.proofs.reader.take_line.Goals as goal
 

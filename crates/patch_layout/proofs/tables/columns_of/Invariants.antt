@@ -1,5 +1,5 @@
 use Rattle.std.proofs.Common.{◌≡◌, length}
-use Rattle.patch_layout.specs.Kept.{HasColumns}
+use Rattle.patch_layout.specs.inside.Kept.{HasColumns}
 use Rattle.patch_layout.proofs.tables.columns_of.Given as goal
 
 abbrev pub invariant-loop-cell : goal.invariant-loop-cell

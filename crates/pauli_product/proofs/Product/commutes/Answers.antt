@@ -1,6 +1,6 @@
 use Rattle.std.proofs.Common.{ℕ, ◌%◌, ◌==◌, length, ap, ap₂, sym, ◌∙◌}
 use Rattle.pauli_product.specs.Signed.{clashes, commute}
-use Rattle.pauli_product.specs.Masks.{all_letters}
+use Rattle.pauli_product.specs.inside.Masks.{all_letters}
 use Rattle.pauli_product.proofs.Masks.{both_shown, same_count, shown_clashes}
 use Rattle.pauli_product.proofs.Product.commutes.Goals as goal
 

@@ -1,7 +1,7 @@
 use Rattle.std.proofs.Common.{◌≡◌, List, length, take, set, ap, ◌∙◌}
 use Rattle.std.specs.List.{refill}
 use Rattle.pauli_product.specs.declared.word.Word.{Word}
-use Rattle.pauli_product.specs.Masks.{all_letters}
+use Rattle.pauli_product.specs.inside.Masks.{all_letters}
 use Rattle.pauli_product.proofs.Masks.{refilled, take-set, shown_letters}
 use Rattle.pauli_product.proofs.Product.set_letter.Goals as goal
 

@@ -1,7 +1,7 @@
 use Rattle.std.proofs.Common.{Option, Some, IfSome, IfNone, Result, Ok, Err, IfOk, arith, refl, sym, ◌≡◌, ◌≢◌, ℕ, List, length, subst}
 use Rattle.pauli_product.specs.Signed.{Signed}
 use Rattle.pauli_product.specs.Spelling.{Spells}
-use Rattle.product_list.specs.ListText.{axis_of}
+use Rattle.product_list.specs.ListText.{axis_in_text}
 use Rattle.product_list.proofs.Axes.{axis_text, spells}
 use Rattle.product_list.proofs.draft.read_axis.Goals as goal
 
@@ -24,9 +24,9 @@ returns-clause-some c =
     let w = c.args.text.now in
     let t = axis_text w c.requires.axis in
     let l = t.long in
-    found_is c.parse.result w c.args.qubits (axis_of w) c.parse.ensures.exact (spells w c.requires.axis (omega arith)) (omega arith)
+    found_is c.parse.result w c.args.qubits (axis_in_text w) c.parse.ensures.exact (spells w c.requires.axis (omega arith)) (omega arith)
 
 pub returns-clause-none : goal.returns-clause-none
 returns-clause-none c =
     let w = c.args.text.now in
-    none_missed c.parse.result w (axis_of w) (length (axis_of w).letters ≢ c.args.qubits) c.parse.ensures.exact (spells w c.requires.axis (omega arith))
+    none_missed c.parse.result w (axis_in_text w) (length (axis_in_text w).letters ≢ c.args.qubits) c.parse.ensures.exact (spells w c.requires.axis (omega arith))

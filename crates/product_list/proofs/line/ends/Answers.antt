@@ -1,4 +1,4 @@
-use Rattle.product_list.specs.Lines.{ending_said}
+use Rattle.product_list.specs.inside.Lines.{ending_said}
 use Rattle.product_list.proofs.Wording.{ended, not_ended}
 use Rattle.product_list.proofs.line.ends.Goals as goal
 

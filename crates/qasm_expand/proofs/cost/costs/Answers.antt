@@ -2,7 +2,7 @@ use Rattle.std.proofs.Common.{[], ◌∷◌, ◌++◌, take, is_ok, sym, ap, ◌
 use Rattle.std.proofs.ResultArms.{chosen}
 use Rattle.std.proofs.lemmas.List.{take_more}
 use Rattle.qasm_expand.specs.Flats.{each_from}
-use Rattle.qasm_expand.specs.Costs.{costs_of, definition_cost}
+use Rattle.qasm_expand.specs.inside.Costs.{costs_of, definition_cost}
 use Rattle.qasm_expand.proofs.Calls.{each_from-push}
 use Rattle.qasm_expand.proofs.cost.costs.Goals as goal
 

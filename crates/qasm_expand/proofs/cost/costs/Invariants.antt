@@ -1,5 +1,5 @@
 use Rattle.std.proofs.Common.{◌≡◌, take}
-use Rattle.qasm_expand.specs.Costs.{costs_of}
+use Rattle.qasm_expand.specs.inside.Costs.{costs_of}
 use Rattle.qasm_expand.proofs.cost.costs.Given as goal
 
 abbrev pub invariant-loop-definition : goal.invariant-loop-definition

@@ -1,6 +1,6 @@
 use Rattle.std.proofs.Common.{◌≡◌, ◌+◌, take, ap, ◌∙◌, sum_by}
 use Rattle.std.proofs.lemmas.List.{take_all}
-use Rattle.qasm_expand.specs.Costs.{definition_cost, capped_cost, op_operations, op_products}
+use Rattle.qasm_expand.specs.inside.Costs.{definition_cost, capped_cost, op_operations, op_products}
 use Rattle.qasm_expand.proofs.cost.definition_cost.Goals as goal
 
 pub returns : goal.returns

@@ -1,5 +1,5 @@
 use Rattle.std.proofs.Common.{◌≡◌, ◌+◌, take, sum_by}
-use Rattle.qasm_expand.specs.Costs.{capped_cost, op_operations, op_products}
+use Rattle.qasm_expand.specs.inside.Costs.{capped_cost, op_operations, op_products}
 use Rattle.qasm_expand.proofs.cost.definition_cost.Given as goal
 
 abbrev pub invariant-loop-op : goal.invariant-loop-op

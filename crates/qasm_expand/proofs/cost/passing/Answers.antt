@@ -2,7 +2,7 @@ use Rattle.std.proofs.Common.{ℕ, ◌+◌, take, sym, ap, ◌∙◌, Some}
 use Rattle.std.proofs.lemmas.List.{drop_all}
 use Rattle.qasm_expand.specs.declared.cost.Cost.{Cost}
 use Rattle.qasm_expand.specs.Limits.{passing_from}
-use Rattle.qasm_expand.specs.Costs.{capped_cost, is_over}
+use Rattle.qasm_expand.specs.inside.Costs.{capped_cost, is_over}
 use Rattle.qasm_expand.proofs.Limits.{passing_stops, passing_goes, counted_more, over}
 use Rattle.qasm_expand.proofs.cost.passing.Goals as goal
 

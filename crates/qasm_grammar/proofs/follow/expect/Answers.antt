@@ -1,6 +1,7 @@
 use Rattle.std.proofs.Common.{◌+◌, List, drop, sym, ap, ◌∙◌, arith}
 use Rattle.qasm_grammar.specs.declared.terminal.Terminal.{Terminal}
-use Rattle.qasm_grammar.specs.Forms.{reads, tokens_then}
+use Rattle.qasm_grammar.specs.Forms.{reads}
+use Rattle.qasm_grammar.specs.inside.Forms.{tokens_then}
 use Rattle.qasm_grammar.proofs.Steps.{one_stops, at_one_goes, tokens_live, next_of, next_within}
 use Rattle.qasm_grammar.proofs.Spelled.{fixed_push, next_stands}
 use Rattle.std.proofs.Common.{get_or}

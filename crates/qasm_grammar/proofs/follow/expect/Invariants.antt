@@ -1,6 +1,8 @@
 use Rattle.std.proofs.Common.{◌≡◌, ◌+◌, ◌≤◌, length, take, drop, None}
-use Rattle.qasm_grammar.specs.Forms.{Form, refusal, reads, tokens_then}
-use Rattle.qasm_grammar.specs.Spelling.{Spells, fixed_text}
+use Rattle.qasm_grammar.specs.Forms.{Form, refusal, reads}
+use Rattle.qasm_grammar.specs.inside.Forms.{tokens_then}
+use Rattle.qasm_grammar.specs.Spelling.{Spells}
+use Rattle.qasm_grammar.specs.inside.Spelling.{fixed_text}
 use Rattle.qasm_grammar.proofs.follow.expect.Given as goal
 
 abbrev pub invariant-loop-next : goal.invariant-loop-next

@@ -2,7 +2,8 @@ use Rattle.std.proofs.Common.{◌∙◌, ◌∷◌, [], sym, refl, arith}
 use Rattle.std.proofs.lemmas.Result.{err_from_is_err_and}
 use Rattle.std.proofs.lemmas.Grind.{common_steps}
 use Rattle.qasm_grammar.specs.declared.terminal.Terminal.TheVariants.{OpenBracket, Comma}
-use Rattle.qasm_grammar.specs.Forms.{Form, one, both, many, ◌⨾◌, Follows}
+use Rattle.qasm_grammar.specs.Forms.{Form, one, both, many, ◌⨾◌}
+use Rattle.qasm_grammar.specs.inside.Forms.{Follows}
 use Rattle.qasm_grammar.specs.Grammar.{arg, args}
 use Rattle.qasm_grammar.specs.Spelling.{arg_text}
 use Rattle.qasm_grammar.proofs.Steps.{many_skips, many_follows, at_many_goes, stopped_along}

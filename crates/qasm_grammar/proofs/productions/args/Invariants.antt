@@ -1,6 +1,7 @@
 use Rattle.std.proofs.Common.{◌≡◌, ◌-◌, ◌≤◌, ◌<◌, ◌∷◌, [], length, drop}
 use Rattle.qasm_grammar.specs.declared.terminal.Terminal.TheVariants.{OpenBracket, Comma}
-use Rattle.qasm_grammar.specs.Forms.{Form, one, both, many, ◌⨾◌, reads, Follows}
+use Rattle.qasm_grammar.specs.Forms.{Form, one, both, many, ◌⨾◌, reads}
+use Rattle.qasm_grammar.specs.inside.Forms.{Follows}
 use Rattle.qasm_grammar.specs.Grammar as grammar
 use Rattle.qasm_grammar.specs.Spelling.{Spells, args_text}
 use Rattle.qasm_grammar.proofs.productions.args.Given as goal

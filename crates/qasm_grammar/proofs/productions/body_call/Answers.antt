@@ -1,7 +1,8 @@
 use Rattle.std.proofs.Common.{◌∙◌, ◌++◌, ◌∷◌, [], refl}
 use Rattle.std.proofs.lemmas.Result.{err_from_is_err_and}
 use Rattle.qasm_grammar.specs.declared.terminal.Terminal.TheVariants.{Semicolon, Comma, Open, Callee}
-use Rattle.qasm_grammar.specs.Forms.{Form, one, both, ◌⨾◌, ◌or◌, next, may_end, Follows}
+use Rattle.qasm_grammar.specs.Forms.{Form, one, both, ◌⨾◌, ◌or◌, next, may_end}
+use Rattle.qasm_grammar.specs.inside.Forms.{Follows}
 use Rattle.qasm_grammar.specs.Grammar.{names, brackets, body_call}
 use Rattle.qasm_grammar.specs.Spelling.{fixed, given, names_text, brackets_text}
 use Rattle.qasm_grammar.proofs.Steps.{stopped_along}

@@ -1,7 +1,8 @@
 use Rattle.std.proofs.Common.{◌∙◌, ◌++◌, ◌∷◌, [], refl}
 use Rattle.std.proofs.lemmas.Result.{err_from_is_err_and}
 use Rattle.qasm_grammar.specs.declared.terminal.Terminal.TheVariants.{Semicolon, Comma, Open, OpenBracket}
-use Rattle.qasm_grammar.specs.Forms.{Form, one, both, ◌⨾◌, ◌or◌, next, may_end, Follows}
+use Rattle.qasm_grammar.specs.Forms.{Form, one, both, ◌⨾◌, ◌or◌, next, may_end}
+use Rattle.qasm_grammar.specs.inside.Forms.{Follows}
 use Rattle.qasm_grammar.specs.Grammar.{arg, args, brackets, call_of}
 use Rattle.qasm_grammar.specs.Spelling.{fixed, given, args_text, brackets_text}
 use Rattle.qasm_grammar.proofs.Steps.{stopped_along}

@@ -1,9 +1,9 @@
 use Rattle.std.proofs.Common.{◌≡◌, ◌<◌, ℕ, List, All, length, ap, refl, subst, sym, arith, IsPermutation}
 use Rattle.patch_layout.specs.declared.walk.Reached.{Reached}
-use Rattle.patch_layout.specs.Tree.{Tree, Named}
+use Rattle.patch_layout.specs.Tree.{Tree, ParentsNamed}
 use Rattle.region_plan.specs.Free.{Free}
-use Rattle.region_plan.specs.Tree.{cells_in}
-use Rattle.region_plan.specs.Finish.{PlacesIn, Renumbered}
+use Rattle.region_plan.specs.inside.Tree.{cells_in}
+use Rattle.region_plan.specs.inside.Finish.{PlacesIn, Renumbered}
 use Rattle.region_plan.proofs.Finishing.{sorted_cells, touched_within, tree_within, finished}
 use Rattle.region_plan.proofs.certificate.finish.Goals as goal
 
@@ -45,8 +45,8 @@ returns c =
     let perm : IsPermutation (cells_in c.args.region.tree.tree) c.in_ok-cells.cells.items = simp c.as_slice-tree.ensures at c.in_ok-cells.ensures.same in
     let P : List ℕ → Type 0 = λ x. PlacesIn x c.in_ok-places.places.items in
     let len : length c.deref-2.result.now ≡ length c.in_ok-cells.cells.items = ap (λ (x : List ℕ). length x) c.deref-2.ensures.value in
-    let N : List Reached → Type 0 = λ x. Named x c.deref-3.result.now c.in_ok-parents.parents.items (length x) in
-    let M : List ℕ → Type 0 = λ x. Named c.args.region.tree.tree x c.in_ok-parents.parents.items (length c.args.region.tree.tree) in
+    let N : List Reached → Type 0 = λ x. ParentsNamed x c.deref-3.result.now c.in_ok-parents.parents.items (length x) in
+    let M : List ℕ → Type 0 = λ x. ParentsNamed c.args.region.tree.tree x c.in_ok-parents.parents.items (length c.args.region.tree.tree) in
     let A : List Reached → Type 0 = λ x. Renumbered x c.deref-5.result.now c.deref-4.result.now c.in_ok-touches.touches.items in
     let B : List ℕ → Type 0 = λ x. Renumbered c.args.region.tree.tree x c.deref-4.result.now c.in_ok-touches.touches.items in
     let C : List ℕ → Type 0 = λ x. Renumbered c.args.region.tree.tree c.in_ok-places.places.items x c.in_ok-touches.touches.items in

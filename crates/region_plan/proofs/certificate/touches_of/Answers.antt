@@ -3,7 +3,7 @@ use Rattle.std.proofs.lemmas.Option.{slice_get-get_or}
 use Rattle.std.proofs.lemmas.List.Elements.{All-contains}
 use Rattle.patch_layout.specs.declared.walk.Reached.{Reached}
 use Rattle.patch_layout.proofs.Places.{Contains_from_get, get_mapped}
-use Rattle.region_plan.specs.Tree.{cells_in}
+use Rattle.region_plan.specs.inside.Tree.{cells_in}
 use Rattle.region_plan.proofs.Finishing.{renumbered_next}
 use Rattle.region_plan.proofs.certificate.touches_of.Goals as goal
 

@@ -1,5 +1,5 @@
 use Rattle.std.proofs.Common.{◌≡◌, length}
-use Rattle.region_plan.specs.Finish.{RenumberedTo}
+use Rattle.region_plan.specs.inside.Finish.{RenumberedTo}
 use Rattle.region_plan.proofs.certificate.touches_of.Given as goal
 
 abbrev pub invariant-loop-place : goal.invariant-loop-place

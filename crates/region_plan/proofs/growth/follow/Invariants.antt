@@ -1,7 +1,7 @@
 use Rattle.std.proofs.Common.{◌≡◌, ℕ, List, Option}
 use Rattle.patch_layout.specs.declared.layout.Side.{Side}
 use Rattle.patch_layout.specs.Grid.{Grid}
-use Rattle.region_plan.specs.Follow.{Leading}
+use Rattle.region_plan.specs.inside.Follow.{Leading}
 use Rattle.region_plan.proofs.Grafting.{Back}
 use Rattle.region_plan.proofs.growth.follow.Given as goal
 

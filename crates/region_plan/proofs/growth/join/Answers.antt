@@ -1,6 +1,6 @@
 use Rattle.std.proofs.Common.{List, subst, sym}
 use Rattle.patch_layout.specs.declared.walk.Reached.{Reached}
-use Rattle.region_plan.specs.Follow.{Leading}
+use Rattle.region_plan.specs.inside.Follow.{Leading}
 use Rattle.region_plan.proofs.Grafting.{leading_sought, leading_walk}
 use Rattle.region_plan.proofs.growth.join.Goals as goal
 

@@ -1,7 +1,7 @@
 use Rattle.std.proofs.Common.{◌≡◌, [], ◌∷◌, ap, refl, arith}
 use Rattle.patch_layout.specs.Spread.{starting}
 use Rattle.region_plan.specs.Free.{Free}
-use Rattle.region_plan.specs.Tree.{Growth}
+use Rattle.region_plan.specs.inside.Tree.{Growth}
 use Rattle.region_plan.proofs.Serving.{sprouted, sprouted_not}
 use Rattle.region_plan.proofs.growth.sprout.Goals as goal
 

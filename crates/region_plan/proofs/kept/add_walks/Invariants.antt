@@ -1,4 +1,4 @@
-use Rattle.region_plan.specs.Kept.{Suits}
+use Rattle.region_plan.specs.inside.Kept.{Suits}
 use Rattle.region_plan.proofs.kept.add_walks.Given as goal
 
 abbrev pub invariant-loop-side : goal.invariant-loop-side

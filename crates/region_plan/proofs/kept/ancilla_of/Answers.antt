@@ -1,5 +1,5 @@
 use Rattle.std.proofs.Common.{◌+◌, Bool, List, subst, sym}
-use Rattle.region_plan.specs.Kept.{AncillaTo}
+use Rattle.region_plan.specs.inside.Kept.{AncillaTo}
 use Rattle.region_plan.proofs.Keeping.{ancilla_more}
 use Rattle.region_plan.proofs.kept.ancilla_of.Goals as goal
 

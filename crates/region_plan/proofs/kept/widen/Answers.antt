@@ -1,5 +1,5 @@
 use Rattle.std.proofs.Common.{List, refl, sym, subst}
-use Rattle.region_plan.specs.Kept.{Suits}
+use Rattle.region_plan.specs.inside.Kept.{Suits}
 use Rattle.region_plan.specs.declared.kept.Walk.{Walk}
 use Rattle.region_plan.proofs.Keeping.{suits_widened}
 use Rattle.region_plan.proofs.kept.widen.Goals as goal

@@ -1,6 +1,6 @@
 use Rattle.std.proofs.Common.{ℕ, ◌+◌, ◌-◌, List, Option, length}
 use Rattle.patch_layout.specs.Grid.{Grid}
-use Rattle.region_plan.specs.Kept.{Suits}
+use Rattle.region_plan.specs.inside.Kept.{Suits}
 use Rattle.region_plan.proofs.kept.widen.Given as goal
 
 abbrev pub invariant-widen : goal.invariant-widen

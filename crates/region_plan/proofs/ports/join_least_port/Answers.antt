@@ -1,7 +1,7 @@
 use Rattle.std.proofs.Common.{List, refl, sym, subst, arith, All}
 use Rattle.patch_layout.specs.declared.walk.Reached.{Reached}
 use Rattle.region_plan.specs.Free.{Free}
-use Rattle.region_plan.specs.Tree.{cells_in}
+use Rattle.region_plan.specs.inside.Tree.{cells_in}
 use Rattle.region_plan.proofs.Porting.{trying_more}
 use Rattle.region_plan.proofs.ports.join_least_port.Goals as goal
 

@@ -2,8 +2,8 @@ use Rattle.std.proofs.Common.{ℕ, List, Option, refl, sym, subst, arith}
 use Rattle.patch_layout.specs.declared.layout.Side.TheVariants as side
 use Rattle.patch_layout.specs.Region.{OnSide}
 use Rattle.region_plan.specs.Free.{Free}
-use Rattle.region_plan.specs.Tree.{Grafted, Rooted}
-use Rattle.region_plan.specs.Kept.{Suits}
+use Rattle.region_plan.specs.inside.Tree.{Grafted, Rooted}
+use Rattle.region_plan.specs.inside.Kept.{Suits}
 use Rattle.region_plan.proofs.Porting.{not_reached, goes_on}
 use Rattle.region_plan.proofs.ports.join_port.Goals as goal
 

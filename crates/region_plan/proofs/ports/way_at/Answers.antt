@@ -1,7 +1,7 @@
 use Rattle.std.proofs.Common.{ℕ, List, Option, refl, sym, subst}
 use Rattle.region_plan.specs.Free.{Free}
-use Rattle.region_plan.specs.Ways.{At}
-use Rattle.region_plan.specs.Kept.{Suits}
+use Rattle.region_plan.specs.inside.Ways.{At}
+use Rattle.region_plan.specs.inside.Kept.{Suits}
 use Rattle.region_plan.proofs.Porting.{at_some, sprung_free, way_unoffered, way_apart, way_none, way_some}
 use Rattle.region_plan.proofs.ports.way_at.Goals as goal
 

@@ -1,4 +1,4 @@
-use Rattle.region_plan.specs.Walk.{BegunTo}
+use Rattle.region_plan.specs.inside.Walk.{BegunTo}
 use Rattle.region_plan.proofs.walk.begin.Given as goal
 
 abbrev pub invariant-loop-start : goal.invariant-loop-start

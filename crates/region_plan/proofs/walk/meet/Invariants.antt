@@ -1,5 +1,5 @@
-use Rattle.patch_layout.specs.Spread.{InQueue, NoneBelow}
+use Rattle.patch_layout.specs.Spread.{InQueue, NoneBefore}
 use Rattle.region_plan.proofs.walk.meet.Given as goal
 
 abbrev pub invariant-loop-head : goal.invariant-loop-head
-invariant-loop-head l = NoneBelow (InQueue l.tree.tree) l.walk l.head
+invariant-loop-head l = NoneBefore (InQueue l.tree.tree) l.walk l.head

@@ -2,8 +2,8 @@ use Rattle.std.proofs.Common.{◌≡◌, ℕ, List, Option, None, length, ap, sy
 use Rattle.patch_layout.specs.declared.layout.Side.{Side}
 use Rattle.patch_layout.specs.Region.{wanted_sides}
 use Rattle.region_plan.specs.Free.{Free}
-use Rattle.region_plan.specs.Ways.{Served}
-use Rattle.region_plan.specs.Kept.{Suits}
+use Rattle.region_plan.specs.inside.Ways.{Served}
+use Rattle.region_plan.specs.inside.Kept.{Suits}
 use Rattle.region_plan.proofs.Answering.{some_sides, through_some, through_none, served_region}
 use Rattle.region_plan.proofs.ways.for_measurement.Goals as goal
 

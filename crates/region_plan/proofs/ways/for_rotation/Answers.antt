@@ -1,7 +1,7 @@
 use Rattle.std.proofs.Common.{◌≡◌, ℕ, List, Option, None, length, ap, sym, subst, arith}
 use Rattle.patch_layout.specs.declared.layout.Side.{Side}
 use Rattle.patch_layout.specs.Region.{wanted_sides}
-use Rattle.region_plan.specs.Kept.{Suits}
+use Rattle.region_plan.specs.inside.Kept.{Suits}
 use Rattle.region_plan.proofs.Answering.{some_sides, best_some, found_way, found_no_way}
 use Rattle.region_plan.proofs.ways.for_rotation.Goals as goal
 

@@ -3,8 +3,8 @@ use Rattle.source_model.specs.Circuits.{WellFormed, kinds}
 use Rattle.source_model.specs.declared.Circuit.{Circuit}
 use Rattle.qasm_expand.specs.Flats.{flats_of}
 use Rattle.qasm_expand.specs.Sound.{members}
-use Rattle.rotation_list.specs.Items.{ActsBelow}
-use Rattle.product_list.specs.Listable.{HasLetter}
+use Rattle.rotation_list.specs.inside.Items.{ActsBelow}
+use Rattle.product_list.specs.Listable.{AxisHasLetter}
 use Rattle.std.proofs.lemmas.Result.{err_from_is_err_and}
 use Rattle.rotation_list.proofs.Answering.{past_fault}
 use Rattle.rotation_list.proofs.Programs.{all_act, program_few, program_formed, program_lettered}
@@ -51,4 +51,4 @@ returns-clause-letters c =
     let made = c.in_ok-tree.ensures.read in
     let tree = c.in_ok-tree.tree in
     let sound = c.law_sound.ensures c.args.text.now made.tokens tree made.parsed in
-    subst (λ (x : Circuit). All HasLetter x.items) (sym c.in_ok-circuit.ensures) (program_lettered c.args.text.now tree sound (c.law_placed.ensures tree sound))
+    subst (λ (x : Circuit). All AxisHasLetter x.items) (sym c.in_ok-circuit.ensures) (program_lettered c.args.text.now tree sound (c.law_placed.ensures tree sound))

@@ -1,4 +1,4 @@
-use Rattle.router_tests.specs.Sites.{MayTry}
+use Rattle.router_tests.specs.inside.Sites.{MayTry}
 use Rattle.router_tests.proofs.attempts.first_wrong.Given as goal
 
 abbrev pub invariant-loop-at : goal.invariant-loop-at

@@ -1,7 +1,7 @@
 use Rattle.std.proofs.Common.{ap, arith, length, length-append}
 use Rattle.std.proofs.lemmas.List.Elements.{All-same, All-push}
 use Rattle.source_model.specs.declared.Static.{Static}
-use Rattle.router_tests.specs.Jobs.{Suits}
+use Rattle.router_tests.specs.inside.Jobs.{Suits}
 use Rattle.router_tests.proofs.board.products.Goals as goal
 
 pub loop-at-preserved : goal.loop-at-preserved

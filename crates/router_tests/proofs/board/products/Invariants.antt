@@ -1,6 +1,6 @@
 use Rattle.std.proofs.Common.{◌≡◌, length}
 use Rattle.std.specs.List.{All}
-use Rattle.router_tests.specs.Jobs.{Suits}
+use Rattle.router_tests.specs.inside.Jobs.{Suits}
 use Rattle.router_tests.proofs.board.products.Given as goal
 
 abbrev pub invariant-loop-at : goal.invariant-loop-at

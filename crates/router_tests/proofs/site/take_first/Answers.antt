@@ -4,11 +4,11 @@ use Rattle.std.proofs.lemmas.List.Elements.{Contains-append_left, Contains-push}
 use Rattle.std.specs.List.{Contains}
 use mathlib.Core.Logic.{dite}
 use native.Mathlib.Decide.{ℕ_discrete}
-use Rattle.number_share.specs.Hands.{Named, Owner}
-use Rattle.router_tests.specs.Sites.{HoldsBelow}
+use Rattle.number_share.specs.Hands.{NamedShare, Owner}
+use Rattle.router_tests.specs.inside.Sites.{HoldsBelow}
 use Rattle.router_tests.proofs.site.take_first.Goals as goal
 
-holds_more : (s : Named) (h after : Owner) (k n : ℕ) → HoldsBelow s h k → n ≡ k → n < s.numbers → after.held ≡ h.held ++ n ∷ [] → HoldsBelow s after (k + 1)
+holds_more : (s : NamedShare) (h after : Owner) (k n : ℕ) → HoldsBelow s h k → n ≡ k → n < s.numbers → after.held ≡ h.held ++ n ∷ [] → HoldsBelow s after (k + 1)
 holds_more s h after k n before is inside held m below =
     dite (ℕ_discrete m k)
     (λ same. let e : n ≡ m = omega arith in

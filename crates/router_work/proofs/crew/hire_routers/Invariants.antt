@@ -7,7 +7,7 @@ use Rattle.router_work.proofs.crew.hire_routers.Given as goal
 
 abbrev pub invariant-loop-gate : goal.invariant-loop-gate
 invariant-loop-gate g l = record {
-  hands : All (shares.IsOf l.share) l.hands.items;
+  hands : All (shares.IsHandOf l.share) l.hands.items;
   hand_each : length l.hands.items ≡ length l.gates.items;
   looks : All (IsMadeFor l.grid.opened) l.looks.items;
   look_each : length l.looks.items ≡ length l.gates.items;

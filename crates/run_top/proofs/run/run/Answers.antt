@@ -3,8 +3,8 @@ use Rattle.tool_words.specs.Commands as words
 use Rattle.fault_lines.specs.Sinks.{writing}
 use Rattle.job_read.specs.Reading.{reading}
 use Rattle.job_read.specs.Shelves.{shelved}
-use Rattle.run_top.specs.declared.fault.Fault.{Fault}
-use Rattle.run_top.specs.Told.{EndsBy}
+use Rattle.run_top.specs.declared.fault.RunFault.{RunFault}
+use Rattle.run_top.specs.inside.Told.{EndsBy}
 use Rattle.run_top.proofs.Asking.{by_job, ends_by}
 use Rattle.run_top.proofs.Ending.{run_attempt, done_job, done_write, stopped_ends}
 use Rattle.run_top.proofs.run.run.Goals as goal
@@ -37,16 +37,16 @@ returns-in_err-write_board-clause-complete g c = λ a.
 pub returns-in_err-job-clause-refuses : goal.returns-in_err-job-clause-refuses
 returns-in_err-job-clause-refuses g c = λ f x.
     let end = c.from_residual.result in
-    by_job (λ (h : Fault). EndsBy h end) (reading (g.S.Shelf.tells c.args.shelf.now) (g.S.Shelf.faults c.args.shelf.now) (g.S.Shelf.faults c.read_job.new.shelf) c.args.asked.circuit.now c.args.asked.layout.now c.args.asked.outcomes.now)
+    by_job (λ (h : RunFault). EndsBy h end) (reading (g.S.Shelf.tells c.args.shelf.now) (g.S.Shelf.faults c.args.shelf.now) (g.S.Shelf.faults c.read_job.new.shelf) c.args.asked.circuit.now c.args.asked.layout.now c.args.asked.outcomes.now)
     (λ h told refused. ends_by c.in_err-job.field-0.0 h end c.from_residual.ensures.1 (c.in_err-job.ensures.faults h told refused))
     f x
 
 pub returns-clause-refuses : goal.returns-clause-refuses
 returns-clause-refuses g c = λ f x.
-    absurd (by_job (λ (h : Fault). ⊥) (reading (g.S.Shelf.tells c.args.shelf.now) (g.S.Shelf.faults c.args.shelf.now) (g.S.Shelf.faults c.read_job.new.shelf) c.args.asked.circuit.now c.args.asked.layout.now c.args.asked.outcomes.now)
+    absurd (by_job (λ (h : RunFault). ⊥) (reading (g.S.Shelf.tells c.args.shelf.now) (g.S.Shelf.faults c.args.shelf.now) (g.S.Shelf.faults c.read_job.new.shelf) c.args.asked.circuit.now c.args.asked.layout.now c.args.asked.outcomes.now)
     c.in_ok-job.ensures.faults f x)
 
 pub returns-in_err-write_board-clause-refuses : goal.returns-in_err-write_board-clause-refuses
 returns-in_err-write_board-clause-refuses g c = λ f x.
-    absurd (by_job (λ (h : Fault). ⊥) (reading (g.S.Shelf.tells c.args.shelf.now) (g.S.Shelf.faults c.args.shelf.now) (g.S.Shelf.faults c.read_job.new.shelf) c.args.asked.circuit.now c.args.asked.layout.now c.args.asked.outcomes.now)
+    absurd (by_job (λ (h : RunFault). ⊥) (reading (g.S.Shelf.tells c.args.shelf.now) (g.S.Shelf.faults c.args.shelf.now) (g.S.Shelf.faults c.read_job.new.shelf) c.args.asked.circuit.now c.args.asked.layout.now c.args.asked.outcomes.now)
     c.in_ok-job.ensures.faults f x)

@@ -3,7 +3,7 @@ use Rattle.source_model.specs.declared.Circuit.{Circuit}
 use Rattle.job_read.specs.Shelves.{seen_on, shelved}
 use Rattle.job_read.specs.Stages.{LayoutStands}
 use Rattle.side_by_side.specs.Joined.{IsJoinOf, joined_circuit}
-use Rattle.run_top.specs.declared.fault.Fault.TheVariants as fault
+use Rattle.run_top.specs.declared.fault.RunFault.TheVariants as fault
 use Rattle.run_top.specs.Sides.{AreCircuits, AreOnLayout, TablesStand}
 use Rattle.run_top.specs.SideFaults.{StopsAtSides}
 use Rattle.run_top.specs.Told.{IsOutside}

@@ -1,6 +1,6 @@
 use Rattle.std.proofs.Common.{◌<◌, length, arith, get_or}
 use Rattle.std.proofs.lemmas.Option.{slice_get-get_or}
-use Rattle.schedule_text.specs.Pens.{cell_word}
+use Rattle.schedule_text.specs.inside.Pens.{cell_word}
 use Rattle.patch_base.proofs.Passing.{on_err}
 use Rattle.schedule_text.proofs.Pieces.{passes_more, began_more_of}
 use Rattle.schedule_text.proofs.write.put_cells.Goals as goal

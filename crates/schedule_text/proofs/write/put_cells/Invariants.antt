@@ -1,7 +1,7 @@
 use Rattle.std.proofs.Common.{◌≤◌, length, take}
 use Rattle.std.specs.Prelude.{flat_map}
 use Rattle.patch_base.specs.Passes.{Passes}
-use Rattle.schedule_text.specs.Pens.{cell_word}
+use Rattle.schedule_text.specs.inside.Pens.{cell_word}
 use Rattle.schedule_text.proofs.write.put_cells.Given as goal
 
 abbrev pub invariant-loop-cell : goal.invariant-loop-cell

@@ -1,7 +1,7 @@
 use Rattle.std.proofs.Common.{◌≡◌, ◌∷◌, [], ◌++◌, List, ℕ, sym, subst, arith, append_assoc}
 use Rattle.std.specs.Prelude.{flat_map}
 use Rattle.patch_base.specs.Passes.{Passes}
-use Rattle.schedule_text.specs.Pens.{entry_text}
+use Rattle.schedule_text.specs.inside.Pens.{entry_text}
 use Rattle.schedule_text.proofs.Pieces.{done_more, done_in}
 use Rattle.patch_base.proofs.Passing.{passes_start, passes_then, began_rest, on_err}
 use Rattle.schedule_text.proofs.write.put_entries.Goals as goal

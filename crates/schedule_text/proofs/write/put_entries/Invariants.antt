@@ -2,7 +2,7 @@ use Rattle.std.proofs.Common.{◌≡◌, ◌≤◌, ◌++◌, List}
 use Rattle.std.specs.Prelude.{flat_map}
 use Rattle.board_core.specs.declared.Noted.{Noted}
 use Rattle.patch_base.specs.Passes.{Passes}
-use Rattle.schedule_text.specs.Pens.{entry_text}
+use Rattle.schedule_text.specs.inside.Pens.{entry_text}
 use Rattle.schedule_text.proofs.write.put_entries.Given as goal
 
 abbrev pub invariant-loop-noted : goal.invariant-loop-noted

@@ -1,7 +1,7 @@
 use Rattle.std.proofs.Common.{◌∷◌, [], List, ℕ, sym, subst}
 use Rattle.std.specs.Prelude.{decimal, flat_map}
 use Rattle.patch_base.specs.Passes.{Passes}
-use Rattle.schedule_text.specs.Pens.{spread, head_words, cells_in, cell_word, entry_text}
+use Rattle.schedule_text.specs.inside.Pens.{spread, head_words, cells_in, cell_word, entry_text}
 use Rattle.schedule_text.proofs.Pieces.{entry_parts}
 use Rattle.patch_base.proofs.Passing.{passes_put, passes_then, began_rest, on_err}
 use Rattle.schedule_text.proofs.write.put_entry.Goals as goal

@@ -1,7 +1,7 @@
 use Rattle.std.proofs.Common.{◌∷◌, [], ◌++◌, refl, append_assoc}
 use Rattle.std.specs.Prelude.{codes}
 use Rattle.schedule_text.specs.Text.{digits, bit_in}
-use Rattle.schedule_text.specs.Pens.{register_text}
+use Rattle.schedule_text.specs.inside.Pens.{register_text}
 use Rattle.schedule_text.proofs.Pieces.{register_parts}
 use Rattle.patch_base.proofs.Passing.{passes_put, passes_then, passes_room, began_rest, began_here, on_err}
 use Rattle.schedule_text.proofs.write.put_register.Goals as goal

@@ -1,7 +1,7 @@
 use Rattle.std.proofs.Common.{◌<◌, length, arith, refl}
 use Rattle.std.proofs.lemmas.Option.{slice_get_read}
 use Rattle.schedule_text.specs.Text.{bit_in}
-use Rattle.schedule_text.specs.Pens.{register_text}
+use Rattle.schedule_text.specs.inside.Pens.{register_text}
 use Rattle.patch_base.proofs.Passing.{on_err}
 use Rattle.schedule_text.proofs.Pieces.{passes_more, began_more_of}
 use Rattle.schedule_text.proofs.write.put_registers.Goals as goal

@@ -2,7 +2,7 @@ use Rattle.std.proofs.Common.{◌≤◌, take}
 use Rattle.std.specs.Prelude.{flat_map}
 use Rattle.schedule_text.specs.Text.{bit_in}
 use Rattle.patch_base.specs.Passes.{Passes}
-use Rattle.schedule_text.specs.Pens.{register_text}
+use Rattle.schedule_text.specs.inside.Pens.{register_text}
 use Rattle.schedule_text.proofs.write.put_registers.Given as goal
 
 abbrev pub invariant-loop-register : goal.invariant-loop-register

@@ -1,5 +1,5 @@
 use Rattle.std.proofs.Common.{◌-◌, ◌<◌, length, get_or, sym, ◌∙◌, arith}
-use Rattle.slice_write.specs.Clashes.{placed_at}
+use Rattle.slice_write.specs.inside.Clashes.{placed_at}
 use Rattle.slice_write.proofs.Clashing.{clash_start, clash_skip, clash_here, clash_floor, clash_end, commute_looked}
 use Rattle.slice_write.proofs.clashes.latest_clash.Goals as goal
 

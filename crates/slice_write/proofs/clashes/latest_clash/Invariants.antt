@@ -1,5 +1,5 @@
 use Rattle.std.proofs.Common.{◌≡◌, drop}
-use Rattle.slice_write.specs.Clashes.{greatest_clash}
+use Rattle.slice_write.specs.inside.Clashes.{greatest_clash}
 use Rattle.slice_write.proofs.clashes.latest_clash.Given as goal
 
 abbrev pub invariant-loop-k : goal.invariant-loop-k

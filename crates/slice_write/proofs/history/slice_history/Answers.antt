@@ -2,7 +2,7 @@ use Rattle.std.proofs.Common.{◌≡◌, ◌<◌, ◌^◌, ◌∷◌, [], ◌++�
 use Rattle.board_core.specs.declared.Noted.{Noted}
 use Rattle.board_core.specs.History.{entries}
 use Rattle.slice_write.specs.Slices.{sliced, slices_of}
-use Rattle.slice_write.specs.Tables.{job}
+use Rattle.slice_write.specs.inside.Tables.{job}
 use Rattle.slice_write.proofs.Starting.{awaits_next, fits_next, keeps_next, slices_next, keeps_start, slices_start}
 use Rattle.slice_write.proofs.history.slice_history.Goals as goal
 

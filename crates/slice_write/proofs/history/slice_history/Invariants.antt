@@ -2,7 +2,7 @@ use Rattle.std.proofs.Common.{◌≡◌, ◌++◌, List}
 use Rattle.board_core.specs.declared.Noted.{Noted}
 use Rattle.board_core.specs.History.{entries}
 use Rattle.slice_write.specs.Slices.{sliced, slices_of}
-use Rattle.slice_write.specs.Tables.{job, Keeps}
+use Rattle.slice_write.specs.inside.Tables.{job, Keeps}
 use Rattle.slice_write.proofs.history.slice_history.Given as goal
 
 abbrev pub invariant-loop-noted : goal.invariant-loop-noted

@@ -1,8 +1,8 @@
 use Rattle.std.proofs.Common.{◌∙◌, ap, subst, List, ℕ}
 use Rattle.patch_base.specs.Outside.{Grew, AppendsPrefix}
 use Rattle.board_core.specs.History.{entries}
-use Rattle.slice_write.specs.Pages.{pages_text}
-use Rattle.slice_write.specs.Tables.{job}
+use Rattle.slice_write.specs.inside.Pages.{pages_text}
+use Rattle.slice_write.specs.inside.Tables.{job}
 use Rattle.slice_write.proofs.Whole.{within_greatest, all_have_room, as_many, whole_text}
 use Rattle.slice_write.proofs.history.write_history_slices.Goals as goal
 

@@ -1,7 +1,7 @@
 use Rattle.std.proofs.Common.{◌+◌, ◌∙◌, ap, length, subst, sym, arith, List, get_or}
 use Rattle.std.proofs.lemmas.List.{length_push}
 use Rattle.slice_write.specs.declared.factory.Factory.{Factory}
-use Rattle.slice_write.specs.Factories.{IsFresh}
+use Rattle.slice_write.specs.inside.Factories.{IsFresh}
 use Rattle.slice_write.proofs.Starting.{fresh_more}
 use Rattle.slice_write.proofs.ledger.factories.Goals as goal
 

@@ -1,6 +1,6 @@
 use Rattle.std.proofs.Common.{◌≡◌, ◌<◌, ℕ, length, get_or}
 use Rattle.slice_write.specs.declared.factory.Factory.{Factory}
-use Rattle.slice_write.specs.Factories.{IsFresh}
+use Rattle.slice_write.specs.inside.Factories.{IsFresh}
 use Rattle.slice_write.proofs.ledger.factories.Given as goal
 
 abbrev pub invariant-loop-number : goal.invariant-loop-number

@@ -1,6 +1,6 @@
 use Rattle.std.proofs.Common.{ap, ◌∙◌}
 use Rattle.std.proofs.lemmas.List.{take_all}
-use Rattle.slice_write.specs.Numbers.{greatest_at}
+use Rattle.slice_write.specs.inside.Numbers.{greatest_at}
 use Rattle.slice_write.proofs.Places.{greatest_at_more}
 use Rattle.slice_write.proofs.numbers.greatest_at.Goals as goal
 

@@ -1,5 +1,5 @@
 use Rattle.std.proofs.Common.{◌≡◌, take}
-use Rattle.slice_write.specs.Numbers.{greatest_at}
+use Rattle.slice_write.specs.inside.Numbers.{greatest_at}
 use Rattle.slice_write.proofs.numbers.greatest_at.Given as goal
 
 abbrev pub invariant-loop-cell : goal.invariant-loop-cell

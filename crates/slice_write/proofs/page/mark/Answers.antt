@@ -1,7 +1,7 @@
 use Rattle.std.proofs.Common.{◌++◌, ◌∷◌, [], List, get_or, take, map, ◌∙◌, ap, sym, append_assoc}
 use Rattle.std.proofs.lemmas.List.{map_more}
 use Rattle.slice_write.specs.declared.marks.Mark.{Mark}
-use Rattle.slice_write.specs.Marks.{mark}
+use Rattle.slice_write.specs.inside.Marks.{mark}
 use Rattle.slice_write.proofs.page.mark.Goals as goal
 
 pub loop-cell-preserved : goal.loop-cell-preserved

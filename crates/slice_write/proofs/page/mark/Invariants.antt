@@ -1,5 +1,5 @@
 use Rattle.std.proofs.Common.{◌≡◌, ◌++◌, take, map}
-use Rattle.slice_write.specs.Marks.{mark}
+use Rattle.slice_write.specs.inside.Marks.{mark}
 use Rattle.slice_write.proofs.page.mark.Given as goal
 
 abbrev pub invariant-loop-cell : goal.invariant-loop-cell

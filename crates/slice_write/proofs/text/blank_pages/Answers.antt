@@ -1,7 +1,7 @@
 use Rattle.std.proofs.Common.{◌+◌, ◌∙◌, ap, length, get_or, subst, sym, arith, List, []}
 use Rattle.std.proofs.lemmas.List.{length_push}
 use Rattle.slice_write.specs.declared.page.Page.{Page}
-use Rattle.slice_write.specs.Pages.{PageIs}
+use Rattle.slice_write.specs.inside.Pages.{PageIs}
 use Rattle.slice_write.proofs.Paging.{page_push}
 use Rattle.slice_write.proofs.text.blank_pages.Goals as goal
 

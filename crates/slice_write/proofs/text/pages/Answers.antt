@@ -2,7 +2,7 @@ use Rattle.std.proofs.Common.{◌≡◌, ◌<◌, ◌≤◌, ◌∷◌, [], ◌+
 use Rattle.std.proofs.lemmas.List.{get_or_read}
 use Rattle.board_core.specs.declared.Noted.{Noted}
 use Rattle.slice_write.specs.declared.page.Page.{Page}
-use Rattle.slice_write.specs.Pages.{PageIs}
+use Rattle.slice_write.specs.inside.Pages.{PageIs}
 use Rattle.slice_write.proofs.Paging.{pages_more, room_at}
 use Rattle.slice_write.proofs.text.pages.Goals as goal
 

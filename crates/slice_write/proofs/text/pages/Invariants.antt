@@ -1,8 +1,8 @@
 use Rattle.std.proofs.Common.{◌≡◌, ◌++◌, List, length, take}
 use Rattle.board_core.specs.declared.Noted.{Noted}
 use Rattle.board_core.specs.History.{entries}
-use Rattle.slice_write.specs.Marks.{paired}
-use Rattle.slice_write.specs.Pages.{PagesAre}
+use Rattle.slice_write.specs.inside.Marks.{paired}
+use Rattle.slice_write.specs.inside.Pages.{PagesAre}
 use Rattle.slice_write.proofs.text.pages.Given as goal
 
 abbrev pub invariant-loop-noted : goal.invariant-loop-noted

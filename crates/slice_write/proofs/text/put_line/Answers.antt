@@ -1,6 +1,6 @@
 use Rattle.std.proofs.Common.{◌∙◌, ◌++◌, ◌∷◌, [], ap}
 use Rattle.std.specs.Prelude.{codes, decimal, flat_map}
-use Rattle.slice_write.specs.Pages.{stepping_by}
+use Rattle.slice_write.specs.inside.Pages.{stepping_by}
 use Rattle.slice_write.proofs.Words.{line_parts, word}
 use Rattle.slice_write.proofs.text.put_line.Goals as goal
 

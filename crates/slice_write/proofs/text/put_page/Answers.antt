@@ -2,9 +2,9 @@ use Rattle.std.proofs.Common.{◌≡◌, ◌∙◌, ◌++◌, [], List, ℕ, ap,
 use Rattle.patch_base.specs.Passes.{Passes}
 use Rattle.std.specs.Prelude.{All}
 use Rattle.slice_write.specs.declared.marks.Mark.{Mark}
-use Rattle.slice_write.specs.Marks.{mark_at, IsNarrow}
+use Rattle.slice_write.specs.inside.Marks.{mark_at, IsNarrow}
 use Rattle.slice_write.specs.Pictures.{slice_line, picture}
-use Rattle.slice_write.specs.Pages.{stepping_by, page_text}
+use Rattle.slice_write.specs.inside.Pages.{stepping_by, page_text}
 use Rattle.slice_write.proofs.Words.{page_parts, page_bare}
 use Rattle.patch_base.proofs.Passing.{passes_put, passes_then, began_more, began_rest, on_err}
 use Rattle.slice_write.proofs.text.put_page.Goals as goal

@@ -1,7 +1,7 @@
 use Rattle.std.proofs.Common.{◌≡◌, ◌+◌, ◌-◌, ◌<◌, ◌++◌, List, ℕ, length, arith, sym, ◌∙◌, ap, subst}
 use Rattle.patch_base.specs.Outside.{AppendsPrefix}
 use Rattle.patch_base.specs.Passes.{Passes}
-use Rattle.slice_write.specs.Pages.{page_at, page_text}
+use Rattle.slice_write.specs.inside.Pages.{page_at, page_text}
 use Rattle.slice_write.proofs.Words.{page_here}
 use Rattle.patch_base.proofs.Passing.{on_err}
 use Rattle.slice_write.proofs.Pieces.{passes_more, began_more_of}

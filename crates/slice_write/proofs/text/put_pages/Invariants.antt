@@ -2,7 +2,7 @@ use Rattle.std.proofs.Common.{◌≤◌}
 use Rattle.std.specs.Prelude.{flat_map}
 use Rattle.slice_write.specs.Slices.{upto}
 use Rattle.patch_base.specs.Passes.{Passes}
-use Rattle.slice_write.specs.Pages.{IsDrawn, page_at}
+use Rattle.slice_write.specs.inside.Pages.{IsDrawn, page_at}
 use Rattle.slice_write.proofs.text.put_pages.Given as goal
 
 abbrev pub invariant-loop-n : goal.invariant-loop-n

@@ -1,6 +1,6 @@
 use Rattle.std.proofs.Common.{◌∷◌, [], refl}
 use Rattle.std.specs.Prelude.{codes, decimal}
-use Rattle.slice_write.specs.Pages.{pages_text}
+use Rattle.slice_write.specs.inside.Pages.{pages_text}
 use Rattle.patch_base.proofs.Passing.{passes_start, passes_put, passes_then, began_all, map_err}
 use Rattle.slice_write.proofs.text.write_pages.Goals as goal
 

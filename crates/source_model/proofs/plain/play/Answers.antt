@@ -2,7 +2,7 @@ use Rattle.std.proofs.Common.{◌≡◌, ◌+◌, ◌<◌, ◌++◌, ◌∷◌, 
 use Rattle.std.proofs.lemmas.List.{length-replicate}
 use Rattle.source_model.specs.declared.Given.{Given}
 use Rattle.source_model.specs.Circuits.{bits_in}
-use Rattle.source_model.specs.Kept.{Keeps, Carries, product_axis}
+use Rattle.source_model.specs.inside.Kept.{Keeps, Carries, product_axis}
 use Rattle.source_model.specs.SourceRun.{next_of, after}
 use Rattle.source_model.proofs.Keeping.{keeps_fresh}
 use Rattle.source_model.proofs.Playing.{reached_start, reached_product, reached_clifford}

@@ -3,7 +3,7 @@ use Rattle.pauli_product.specs.Pulls.{Turn, quarter, half}
 use Rattle.source_model.specs.declared.Item.{Item}
 use Rattle.source_model.specs.declared.Item.TheVariants as item
 use Rattle.source_model.specs.SourceRun.{axis_of}
-use Rattle.static_products.specs.Pulled.{Answers, turn_of}
+use Rattle.static_products.specs.inside.Pulled.{Answers, turn_of}
 use Rattle.static_products.proofs.Pulling.{answers_turn}
 use Rattle.static_products.proofs.pulls.turn.Goals as goal
 

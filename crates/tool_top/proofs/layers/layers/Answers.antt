@@ -1,7 +1,7 @@
 use Rattle.job_read.specs.declared.fault.JobFault.TheVariants as job
 use Rattle.job_read.specs.Reading.{seen}
-use Rattle.tool_top.specs.declared.fault.Fault.{Fault}
-use Rattle.tool_top.specs.Told.{EndsBy}
+use Rattle.tool_top.specs.declared.fault.ToolFault.{ToolFault}
+use Rattle.tool_top.specs.inside.Told.{EndsBy}
 use Rattle.tool_top.proofs.Accepting.{done_job}
 use Rattle.tool_top.proofs.Refusing.{by_circuit, ends_by}
 use Rattle.tool_top.proofs.layers.layers.Goals as goal
@@ -13,11 +13,11 @@ returns-in_err-circuit-clause-complete g c = λ a.
 pub returns-in_err-circuit-clause-refuses : goal.returns-in_err-circuit-clause-refuses
 returns-in_err-circuit-clause-refuses g c = λ f x.
     let end = c.from_residual.result in
-    by_circuit (λ (h : Fault). EndsBy h end) (seen (g.S.Shelf.tells c.args.shelf.now) (g.S.Shelf.faults c.args.shelf.now) (g.S.Shelf.faults c.load_circuit.new.shelf) c.args.circuit.now)
+    by_circuit (λ (h : ToolFault). EndsBy h end) (seen (g.S.Shelf.tells c.args.shelf.now) (g.S.Shelf.faults c.args.shelf.now) (g.S.Shelf.faults c.load_circuit.new.shelf) c.args.circuit.now)
     (λ h told refused. ends_by c.in_err-circuit.field-0.0 (job.Circuit h) end c.from_residual.ensures.1 (c.in_err-circuit.ensures.faults h told refused))
     f x
 
 pub returns-clause-refuses : goal.returns-clause-refuses
 returns-clause-refuses g c = λ f x.
-    by_circuit (λ (h : Fault). ⊥) (seen (g.S.Shelf.tells c.args.shelf.now) (g.S.Shelf.faults c.args.shelf.now) (g.S.Shelf.faults c.load_circuit.new.shelf) c.args.circuit.now)
+    by_circuit (λ (h : ToolFault). ⊥) (seen (g.S.Shelf.tells c.args.shelf.now) (g.S.Shelf.faults c.args.shelf.now) (g.S.Shelf.faults c.load_circuit.new.shelf) c.args.circuit.now)
     c.in_ok-circuit.ensures.faults f x

@@ -4,8 +4,8 @@ use Rattle.tool_words.specs.Commands as tool
 use Rattle.fault_lines.specs.Sinks.{writing}
 use Rattle.job_read.specs.Reading.{reading}
 use Rattle.job_read.specs.Shelves.{shelved}
-use Rattle.tool_top.specs.declared.fault.Fault.{Fault}
-use Rattle.tool_top.specs.Told.{EndsBy}
+use Rattle.tool_top.specs.declared.fault.ToolFault.{ToolFault}
+use Rattle.tool_top.specs.inside.Told.{EndsBy}
 use Rattle.tool_top.proofs.Accepting.{done_job, done_write}
 use Rattle.tool_top.proofs.Ending.{stopped_ends}
 use Rattle.tool_top.proofs.Refusing.{by_job, ends_by}
@@ -40,16 +40,16 @@ returns-in_err-write_board-clause-complete g c = λ a.
 pub returns-in_err-job-clause-refuses : goal.returns-in_err-job-clause-refuses
 returns-in_err-job-clause-refuses g c = λ f x.
     let end = c.from_residual.result in
-    by_job (λ (h : Fault). EndsBy h end) (reading (g.S.Shelf.tells c.args.shelf.now) (g.S.Shelf.faults c.args.shelf.now) (g.S.Shelf.faults c.read_job.new.shelf) c.args.circuit.now c.args.layout.now c.args.outcomes.now)
+    by_job (λ (h : ToolFault). EndsBy h end) (reading (g.S.Shelf.tells c.args.shelf.now) (g.S.Shelf.faults c.args.shelf.now) (g.S.Shelf.faults c.read_job.new.shelf) c.args.circuit.now c.args.layout.now c.args.outcomes.now)
     (λ h told refused. ends_by c.in_err-job.field-0.0 h end c.from_residual.ensures.1 (c.in_err-job.ensures.faults h told refused))
     f x
 
 pub returns-clause-refuses : goal.returns-clause-refuses
 returns-clause-refuses g c = λ f x.
-    absurd (by_job (λ (h : Fault). ⊥) (reading (g.S.Shelf.tells c.args.shelf.now) (g.S.Shelf.faults c.args.shelf.now) (g.S.Shelf.faults c.read_job.new.shelf) c.args.circuit.now c.args.layout.now c.args.outcomes.now)
+    absurd (by_job (λ (h : ToolFault). ⊥) (reading (g.S.Shelf.tells c.args.shelf.now) (g.S.Shelf.faults c.args.shelf.now) (g.S.Shelf.faults c.read_job.new.shelf) c.args.circuit.now c.args.layout.now c.args.outcomes.now)
     c.in_ok-job.ensures.faults f x)
 
 pub returns-in_err-write_board-clause-refuses : goal.returns-in_err-write_board-clause-refuses
 returns-in_err-write_board-clause-refuses g c = λ f x.
-    absurd (by_job (λ (h : Fault). ⊥) (reading (g.S.Shelf.tells c.args.shelf.now) (g.S.Shelf.faults c.args.shelf.now) (g.S.Shelf.faults c.read_job.new.shelf) c.args.circuit.now c.args.layout.now c.args.outcomes.now)
+    absurd (by_job (λ (h : ToolFault). ⊥) (reading (g.S.Shelf.tells c.args.shelf.now) (g.S.Shelf.faults c.args.shelf.now) (g.S.Shelf.faults c.read_job.new.shelf) c.args.circuit.now c.args.layout.now c.args.outcomes.now)
     c.in_ok-job.ensures.faults f x)

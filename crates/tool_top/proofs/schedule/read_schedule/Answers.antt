@@ -1,11 +1,11 @@
 use Rattle.std.proofs.Common.{ℕ, ◌<◌, List, length, subst, sym}
-use Rattle.history_replay.specs.Replay.{IsTextOf, FirstBad}
+use Rattle.history_replay.specs.Replay.{IsTextOf, FirstBadLine}
 use Rattle.job_read.specs.declared.Job.{Job}
-use Rattle.tool_top.specs.declared.fault.Fault.{Fault}
-use Rattle.tool_top.specs.declared.fault.Fault.TheVariants as fault
+use Rattle.tool_top.specs.declared.fault.ToolFault.{ToolFault}
+use Rattle.tool_top.specs.declared.fault.ToolFault.TheVariants as fault
 use Rattle.job_read.specs.Shelves.{shelved}
-use Rattle.tool_top.specs.Told.{EndsBy}
-use Rattle.tool_top.specs.Replayed.{IsReplayed, IsReplayedOn, StopsReading, StopsReplaying}
+use Rattle.tool_top.specs.inside.Told.{EndsBy}
+use Rattle.tool_top.specs.inside.Replayed.{IsReplayed, IsReplayedOn, StopsReading, StopsReplaying}
 use Rattle.tool_top.specs.Schedules.{IsShort, asked_of}
 use Rattle.tool_top.proofs.Accepting.{outside_err, read_whole}
 use Rattle.tool_top.proofs.Ending.{stands_later}
@@ -50,7 +50,7 @@ returns-in_err-job-clause-refuses g c = λ f x.
     let e = c.in_err-job.field-0.0 in
     let end = c.from_residual.result in
     let is = c.from_residual.ensures.1 in
-    by_schedule (λ (h : Fault). EndsBy h end) (shelved g.S.Shelf.tells g.S.Shelf.faults c.args.shelf.now c.read_job.new.shelf)
+    by_schedule (λ (h : ToolFault). EndsBy h end) (shelved g.S.Shelf.tells g.S.Shelf.faults c.args.shelf.now c.read_job.new.shelf)
     c.args.names.circuit.now c.args.names.layout.now c.args.names.outcomes.now c.args.names.schedule.now
     (λ h told refused. ends_by e h end is (c.in_err-job.ensures.faults h told refused))
     (λ j tells told stands past. ends_outside (fault.Job e) fault.ScheduleTooLong end is (c.in_err-job.ensures.exact j tells stands))
@@ -62,7 +62,7 @@ returns-in-Ok-clause-refuses g c = λ f x.
     let s = c.args.names.schedule.now in
     let text = c.in-Ok.text.items in
     let end = c.replay.result in
-    by_schedule (λ (h : Fault). EndsBy h end) (shelved g.S.Shelf.tells g.S.Shelf.faults c.args.shelf.now c.read_text.new.shelf)
+    by_schedule (λ (h : ToolFault). EndsBy h end) (shelved g.S.Shelf.tells g.S.Shelf.faults c.args.shelf.now c.read_text.new.shelf)
     c.args.names.circuit.now c.args.names.layout.now c.args.names.outcomes.now s
     (λ h told refused. absurd (c.in_ok-job.ensures.faults h told refused))
     (λ j tells told stands past.
@@ -70,7 +70,7 @@ returns-in-Ok-clause-refuses g c = λ f x.
     ends_at fault.ScheduleTooLong end (c.replay.ensures.long (subst (λ (t : List ℕ). 67108864 < length t) (sym c.deref.ensures.value) long)))
     (λ line j tells told stands bad.
     let same = c.in_ok-job.ensures.exact j tells (stands_later (g.S.Shelf.tells c.args.shelf.now) (g.S.Shelf.faults c.args.shelf.now) (g.S.Shelf.faults c.read_text.new.shelf) (g.S.Shelf.faults c.read_job.new.shelf) c.args.names.circuit.now c.args.names.layout.now c.args.names.outcomes.now j stands) in
-    let read = read_whole (λ t. FirstBad (asked_of j) t line) (g.S.Shelf.tells c.args.shelf.now s) (g.S.Shelf.tells c.read_job.new.shelf s) text told (c.in_ok-job.ensures.told s) c.in-Ok.ensures.text bad in
-    let is = subst (λ (k : Job). FirstBad (asked_of k) text line) (sym same) read.1 in
-    c.replay.ensures.bad line (subst IsShort (sym c.deref.ensures.value) read.0) (subst (λ (t : List ℕ). FirstBad (asked_of c.in_ok-job.job) t line) (sym c.deref.ensures.value) is))
+    let read = read_whole (λ t. FirstBadLine (asked_of j) t line) (g.S.Shelf.tells c.args.shelf.now s) (g.S.Shelf.tells c.read_job.new.shelf s) text told (c.in_ok-job.ensures.told s) c.in-Ok.ensures.text bad in
+    let is = subst (λ (k : Job). FirstBadLine (asked_of k) text line) (sym same) read.1 in
+    c.replay.ensures.bad line (subst IsShort (sym c.deref.ensures.value) read.0) (subst (λ (t : List ℕ). FirstBadLine (asked_of c.in_ok-job.job) t line) (sym c.deref.ensures.value) is))
     f x

@@ -1,6 +1,6 @@
 use Rattle.std.proofs.Common.{refl}
 use Rattle.tool_words.specs.Commands as tool
-use Rattle.tool_top.specs.declared.fault.Fault.TheVariants as fault
+use Rattle.tool_top.specs.declared.fault.ToolFault.TheVariants as fault
 use Rattle.fault_lines.specs.Sinks.{writing}
 use Rattle.job_read.specs.Shelves.{shelved}
 use Rattle.tool_top.specs.Schedules.{verdict}

@@ -1,5 +1,5 @@
-use Rattle.grid_lock.specs.Passes.{IsOf, IsSamePass}
+use Rattle.grid_lock.specs.Passes.{IsPassOf, IsSamePass}
 use Rattle.turn_tests.proofs.calls.steps.Given as goal
 
 abbrev pub invariant-loop : goal.invariant-loop
-invariant-loop l = IsOf l.fn.grid l.pass × IsSamePass l.fn.pass l.pass
+invariant-loop l = IsPassOf l.fn.grid l.pass × IsSamePass l.fn.pass l.pass

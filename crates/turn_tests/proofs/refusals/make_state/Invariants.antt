@@ -1,5 +1,5 @@
-use Rattle.grid_lock.specs.Passes.{IsOf, IsSamePass}
+use Rattle.grid_lock.specs.Passes.{IsPassOf, IsSamePass}
 use Rattle.turn_tests.proofs.refusals.make_state.Given as goal
 
 abbrev pub invariant-loop : goal.invariant-loop
-invariant-loop g l = IsOf l.fn.grid l.pass × IsSamePass l.fn.pass l.pass
+invariant-loop g l = IsPassOf l.fn.grid l.pass × IsSamePass l.fn.pass l.pass

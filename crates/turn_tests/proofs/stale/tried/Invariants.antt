@@ -1,5 +1,5 @@
-use Rattle.grid_lock.specs.Passes.{IsOf}
+use Rattle.grid_lock.specs.Passes.{IsPassOf}
 use Rattle.turn_tests.proofs.stale.tried.Given as goal
 
 abbrev pub invariant-loop : goal.invariant-loop
-invariant-loop l = IsOf l.fn.grid l.pass
+invariant-loop l = IsPassOf l.fn.grid l.pass

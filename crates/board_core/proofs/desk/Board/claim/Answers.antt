@@ -6,7 +6,7 @@ use Rattle.board_core.specs.History.{entries}
 use Rattle.board_core.specs.Legal.{Allowed}
 use Rattle.board_core.specs.Position.{Position, past, job_with, with_entry}
 use Rattle.board_core.specs.Causes.{claim_of}
-use Rattle.board_core.specs.Kept.{Kept}
+use Rattle.board_core.specs.inside.Kept.{Kept}
 use Rattle.board_core.proofs.Boards.{kept_at, room, place_at, went_by}
 use Rattle.board_core.proofs.Claiming.{claim_allowed}
 use Rattle.board_core.proofs.Placing.{claim_few, claim_within}

@@ -2,7 +2,7 @@ use Rattle.std.proofs.Common.{ℕ, ◌<◌, ap, sym, ◌∙◌, subst}
 use Rattle.board_core.specs.History.{entries}
 use Rattle.board_core.specs.Legal.{Allowed}
 use Rattle.board_core.specs.Position.{Position, past, job_with, with_entry}
-use Rattle.board_core.specs.Books.{CanDeliver}
+use Rattle.board_core.specs.inside.Books.{CanDeliver}
 use Rattle.board_core.proofs.KeptLegal.{goes, past_length}
 use Rattle.board_core.proofs.Noting.{own_fits}
 use Rattle.board_core.proofs.Boards.{kept_at, legal_at, room, place_at, product_is, product_in, covers}

@@ -3,7 +3,7 @@ use Rattle.std.proofs.lemmas.Option.{slice_get_within}
 use Rattle.source_model.specs.declared.Kind.{Kind}
 use Rattle.board_core.specs.declared.board.Standing.{Standing}
 use Rattle.board_core.specs.Position.{past}
-use Rattle.board_core.specs.Judging.{why_not_delivered}
+use Rattle.board_core.specs.inside.Judging.{why_not_delivered}
 use Rattle.board_core.proofs.Boards.{kept_at, standing_is, covers}
 use Rattle.board_core.proofs.Judged.{refused_because, timely, deliverable, waiting}
 use Rattle.board_core.proofs.desk.Board.deliver_why.Goals as goal

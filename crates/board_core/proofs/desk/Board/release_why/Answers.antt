@@ -6,7 +6,7 @@ use Rattle.board_core.specs.Legal.{Allowed}
 use Rattle.board_core.specs.Position.{past}
 use Rattle.board_core.specs.Books.{standing_of}
 use Rattle.board_core.specs.Causes.{ReleaseRefusedBecause}
-use Rattle.board_core.specs.Judging.{why_not_released}
+use Rattle.board_core.specs.inside.Judging.{why_not_released}
 use Rattle.board_core.proofs.Boards.{standing_is}
 use Rattle.board_core.proofs.Releasing.{release_judged}
 use Rattle.board_core.proofs.desk.Board.release_why.Goals as goal

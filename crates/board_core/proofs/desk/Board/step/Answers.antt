@@ -1,7 +1,7 @@
 use Rattle.std.proofs.Common.{Err, refl, ap, sym, ◌∙◌, subst}
 use Rattle.board_core.specs.declared.Entry.TheVariants.{Step}
 use Rattle.board_core.specs.Position.{Position, past, IsLegal, with_entry}
-use Rattle.board_core.specs.Kept.{Tables}
+use Rattle.board_core.specs.inside.Kept.{Tables}
 use Rattle.board_core.proofs.KeptLegal.{position, kept_legal}
 use Rattle.board_core.proofs.Boards.{kept_at, room, place_at, went}
 use Rattle.board_core.proofs.Stepping.{has_fewer, step_allowed, step_nowhere, step_full}

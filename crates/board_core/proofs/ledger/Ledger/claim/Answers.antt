@@ -3,8 +3,8 @@ use Rattle.std.proofs.lemmas.List.{with_items_is}
 use Rattle.patch_layout.specs.Grid.{Grid}
 use Rattle.board_core.specs.declared.board.Standing.{Standing}
 use Rattle.board_core.specs.Legal.{ClaimCell}
-use Rattle.board_core.specs.Cells.{Taken}
-use Rattle.board_core.specs.Kept.{Kept}
+use Rattle.board_core.specs.inside.Cells.{Taken}
+use Rattle.board_core.specs.inside.Kept.{Kept}
 use Rattle.board_core.proofs.Noting.{written, claim_noted}
 use Rattle.board_core.proofs.ledger.Ledger.claim.Goals as goal
 

@@ -1,5 +1,5 @@
 use Rattle.std.proofs.Common.{subst, sym}
-use Rattle.board_core.specs.Kept.{Kept}
+use Rattle.board_core.specs.inside.Kept.{Kept}
 use Rattle.board_core.proofs.Noting.{scratch_kept}
 use Rattle.board_core.proofs.ledger.Ledger.difference.Goals as goal
 

@@ -1,9 +1,9 @@
 use Rattle.std.proofs.Common.{◌<◌, Some, length, subst, sym, ap, ◌∙◌}
 use Rattle.std.proofs.lemmas.List.{with_items_is}
 use Rattle.board_core.specs.declared.board.Standing.{Standing}
-use Rattle.board_core.specs.Kept.{Kept, Tables}
+use Rattle.board_core.specs.inside.Kept.{Kept, Tables}
 use Rattle.board_core.specs.declared.bits.Written.{Written}
-use Rattle.board_core.specs.Bits.{after_write}
+use Rattle.board_core.specs.inside.Bits.{after_write}
 use Rattle.board_core.proofs.Noting.{written, measure_noted}
 use Rattle.board_core.proofs.ledger.Ledger.measure.Goals as goal
 

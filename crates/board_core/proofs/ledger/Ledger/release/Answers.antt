@@ -1,7 +1,7 @@
 use Rattle.std.proofs.Common.{Some, length, subst, sym, ap, ◌∙◌}
 use Rattle.std.proofs.lemmas.List.{with_items_is}
 use Rattle.board_core.specs.declared.board.Standing.{Standing}
-use Rattle.board_core.specs.Kept.{Kept}
+use Rattle.board_core.specs.inside.Kept.{Kept}
 use Rattle.board_core.proofs.Noting.{written, release_noted}
 use Rattle.board_core.proofs.ledger.Ledger.release.Goals as goal
 

@@ -2,7 +2,7 @@ use Rattle.std.proofs.Common.{ℕ, List, length, ap, sym, ◌∙◌, arith, subs
 use Rattle.magic_pool.specs.declared.Fail.{Fail}
 use Rattle.magic_pool.specs.Recount.{ready_of}
 use Rattle.board_core.specs.History.{steps, taken_states}
-use Rattle.board_core.specs.Kept.{Kept}
+use Rattle.board_core.specs.inside.Kept.{Kept}
 use Rattle.board_core.proofs.Noting.{counted}
 use Rattle.board_core.proofs.ledger.Ledger.show_ready.Goals as goal
 

@@ -1,5 +1,5 @@
 use Rattle.std.proofs.Common.{subst, sym}
-use Rattle.board_core.specs.Kept.{Kept}
+use Rattle.board_core.specs.inside.Kept.{Kept}
 use Rattle.board_core.specs.Uses.{all_axes, all_uses}
 use Rattle.board_core.proofs.Waits.{least_wait}
 use Rattle.board_core.proofs.ledger.Ledger.waits_on.Goals as goal

@@ -3,7 +3,7 @@ use Rattle.std.specs.Int.{bit_not}
 use lib.Bits.{bit_and}
 use mir.Syntax.{w64}
 use Rattle.std.proofs.lemmas.Bool.{cases_Bool, ltb-true, ltb-false}
-use Rattle.commute_order.specs.Words.{IsOpen}
+use Rattle.commute_order.specs.inside.Words.{IsOpen}
 use Rattle.commute_order.proofs.BitLists.{length_bits, read_at, none_left, found, past, set_closed, word_closed}
 use Rattle.commute_order.proofs.bits.Bits.first_open.Goals as goal
 

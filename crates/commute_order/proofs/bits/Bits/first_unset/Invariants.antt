@@ -1,4 +1,4 @@
-use Rattle.commute_order.specs.Words.{IsSetTo}
+use Rattle.commute_order.specs.inside.Words.{IsSetTo}
 use Rattle.commute_order.proofs.bits.Bits.first_unset.Given as goal
 
 -- what comes before is set

@@ -2,7 +2,7 @@ use Rattle.std.proofs.Common.{ℕ, ◌<◌, false, List, length, get_or, ap, sym
 use Rattle.std.specs.Int.RustNames.{bit_xor}
 use Rattle.std.proofs.lemmas.List.{with_items_is}
 use Rattle.pauli_product.specs.Corrections.{xor}
-use Rattle.commute_order.specs.Words.{bits_from}
+use Rattle.commute_order.specs.inside.Words.{bits_from}
 use Rattle.commute_order.proofs.BitLists.{length_bits, bits_flipped}
 use Rattle.commute_order.proofs.bits.Bits.flip_by.Goals as goal
 

@@ -1,5 +1,5 @@
 use Rattle.std.proofs.Common.{List, ap, ◌∙◌, ℕ}
-use Rattle.commute_order.specs.Words.{bits_from}
+use Rattle.commute_order.specs.inside.Words.{bits_from}
 use Rattle.commute_order.proofs.BitLists.{bits_zero}
 use Rattle.commute_order.proofs.bits.Bits.new.Goals as goal
 

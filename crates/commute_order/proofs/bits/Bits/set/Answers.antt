@@ -1,6 +1,6 @@
 use Rattle.std.proofs.Common.{◌<◌, ◌*◌, ◌/◌, ◌%◌, ◌^◌, Bool, true, List, length, set, ap, ◌∙◌, arith}
 use Rattle.std.specs.Int.RustNames.{bit_or}
-use Rattle.commute_order.specs.Words.{bits_from}
+use Rattle.commute_order.specs.inside.Words.{bits_from}
 use Rattle.commute_order.proofs.BitLists.{length_bits, bits_set, read_at}
 use Rattle.commute_order.proofs.bits.Bits.set.Goals as goal
 

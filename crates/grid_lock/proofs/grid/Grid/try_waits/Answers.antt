@@ -2,10 +2,10 @@ use Rattle.std.proofs.Common.{rules, [], None, Some, sym, ap, ◌∙◌, subst}
 use Rattle.board_core.specs.Position.{Position}
 use Rattle.grid_lock.specs.declared.replies.TryWaits.{TryWaits}
 use Rattle.grid_lock.specs.Answers.{WaitsFor}
-use Rattle.grid_lock.specs.Hands.{board_of}
-use Rattle.grid_lock.specs.Plays.{Sat}
+use Rattle.grid_lock.specs.inside.Hands.{board_of}
+use Rattle.grid_lock.specs.inside.Plays.{Sat}
 use Rattle.grid_lock.specs.Replies.{AnswersWaits, Finds}
-use Rattle.grid_lock.specs.Views.{freeing}
+use Rattle.grid_lock.specs.inside.Views.{freeing}
 use Rattle.grid_lock.proofs.Hands.{finds}
 use Rattle.grid_lock.proofs.grid.Grid.try_waits.Goals.{in-Some, in-None}
 use Rattle.grid_lock.proofs.grid.Grid.try_waits.Goals as goal

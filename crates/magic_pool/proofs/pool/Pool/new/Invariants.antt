@@ -1,6 +1,6 @@
 use Rattle.std.proofs.Common.{◌≡◌, ◌<◌, ℕ, length, get_or}
 use Rattle.magic_pool.specs.declared.factory.Factory.{Factory}
-use Rattle.magic_pool.specs.Factories.{Serves, IsFresh}
+use Rattle.magic_pool.specs.inside.Factories.{Serves, IsFresh}
 use Rattle.magic_pool.proofs.pool.Pool.new.Given as goal
 
 abbrev pub invariant-loop-number : goal.invariant-loop-number

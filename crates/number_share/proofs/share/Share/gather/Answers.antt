@@ -1,5 +1,5 @@
 use Rattle.std.proofs.Common.{◌≡◌, ℕ, ◌≤◌, min, flat_map, ap, ◌∙◌, arith}
-use Rattle.number_share.specs.Hands.{Named, Owner}
+use Rattle.number_share.specs.Hands.{NamedShare, Owner}
 use Rattle.number_share.proofs.Ends.{gathered, answers}
 use Rattle.number_share.proofs.share.Share.gather.Goals as goal
 
@@ -13,10 +13,10 @@ pub returns-clause-once : goal.returns-clause-once
 returns-clause-once c =
     let end : c.loop-number.number ≡ c.self.inside.numbers = omega arith in
     let put = c.in_ok-left.ensures ∙ ap (flat_map (λ (h : Owner). h.left)) c.deref.ensures.value in
-    (answers c.args.hands.items c.args.self.numbers c.self.inside.numbers c.close-next.result c.loop-number.number c.in_ok-left.left.items c.loop-number.left.items (ap (λ (s : Named). s.numbers) c.self.view_is) c.close-next.ensures put c.loop-number.invariant end).0
+    (answers c.args.hands.items c.args.self.numbers c.self.inside.numbers c.close-next.result c.loop-number.number c.in_ok-left.left.items c.loop-number.left.items (ap (λ (s : NamedShare). s.numbers) c.self.view_is) c.close-next.ensures put c.loop-number.invariant end).0
 
 pub returns-clause-left : goal.returns-clause-left
 returns-clause-left c =
     let end : c.loop-number.number ≡ c.self.inside.numbers = omega arith in
     let put = c.in_ok-left.ensures ∙ ap (flat_map (λ (h : Owner). h.left)) c.deref.ensures.value in
-    (answers c.args.hands.items c.args.self.numbers c.self.inside.numbers c.close-next.result c.loop-number.number c.in_ok-left.left.items c.loop-number.left.items (ap (λ (s : Named). s.numbers) c.self.view_is) c.close-next.ensures put c.loop-number.invariant end).1
+    (answers c.args.hands.items c.args.self.numbers c.self.inside.numbers c.close-next.result c.loop-number.number c.in_ok-left.left.items c.loop-number.left.items (ap (λ (s : NamedShare). s.numbers) c.self.view_is) c.close-next.ensures put c.loop-number.invariant end).1

@@ -1,5 +1,5 @@
 use Rattle.std.proofs.Common.{◌≡◌, ◌-◌, [], replicate}
-use Rattle.number_share.specs.Views.{opener}
+use Rattle.number_share.specs.inside.Views.{opener}
 use Rattle.number_share.specs.Hands.{unused}
 use Rattle.number_share.proofs.share.Share.new.Given as goal
 

@@ -1,6 +1,6 @@
 use Rattle.std.proofs.Common.{subst, inr, Result, Ok, Err, OnOk, IfErr}
 use Rattle.outcome_table.specs.declared.line.Line.{Line as LineRead}
-use Rattle.outcome_table.specs.Drafts.{said}
+use Rattle.outcome_table.specs.inside.Drafts.{said}
 use Rattle.outcome_table.specs.OutcomeText.{Spells, outcome}
 use Rattle.outcome_table.proofs.draft.Draft.take.Goals as goal
 

@@ -1,4 +1,4 @@
-use Rattle.pauli_product.specs.Words.{word_letters}
+use Rattle.pauli_product.specs.inside.Words.{word_letters}
 use Rattle.pauli_product.proofs.WordLetters.{no_letters}
 use Rattle.pauli_product.proofs.word.Word.identity.Goals as goal
 

@@ -3,7 +3,7 @@ use Rattle.std.specs.Int.{bit_at, trailing_zeros}
 use Rattle.std.specs.Int.RustNames.{bit_or}
 use Rattle.std.proofs.lemmas.Nat.Bits.{bit_at-trailing_zeros}
 use lib.Bits.{or_lt}
-use Rattle.pauli_product.specs.Words.{word_letters}
+use Rattle.pauli_product.specs.inside.Words.{word_letters}
 use Rattle.pauli_product.proofs.WordLetters.{none_from, first_within, first_found, none_before}
 use Rattle.pauli_product.proofs.word.Word.support_from.Goals as goal
 

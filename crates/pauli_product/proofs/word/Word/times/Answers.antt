@@ -1,5 +1,5 @@
 use Rattle.std.proofs.Common.{arith}
-use Rattle.pauli_product.specs.Words.{word_letters}
+use Rattle.pauli_product.specs.inside.Words.{word_letters}
 use Rattle.pauli_product.proofs.WordLetters.{clash_fits, few_powers, ones_power, product_letters}
 use Rattle.pauli_product.proofs.word.Word.times.Goals as goal
 

@@ -1,6 +1,6 @@
 use Rattle.std.proofs.Common.{set, ap, ◌∙◌}
 use Rattle.pauli_product.specs.declared.Letter.{Letter}
-use Rattle.pauli_product.specs.Words.{mask_letters, word_letters}
+use Rattle.pauli_product.specs.inside.Words.{mask_letters, word_letters}
 use Rattle.pauli_product.proofs.WordLetters.{letter_put}
 use Rattle.pauli_product.proofs.word.Word.with_letter.Goals as goal
 

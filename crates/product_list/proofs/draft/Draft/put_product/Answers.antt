@@ -1,7 +1,7 @@
 use Rattle.std.proofs.Common.{[], ◌∷◌, ◌++◌, Ok, ap, sym, ◌∙◌}
 use Rattle.std.proofs.lemmas.Result.{err_from_is_err_and}
 use Rattle.source_model.specs.declared.Circuit.{Circuit}
-use Rattle.product_list.specs.Lines.{ending_said}
+use Rattle.product_list.specs.inside.Lines.{ending_said}
 use Rattle.product_list.specs.ListText.{at_line, item_for, hidden_after}
 use Rattle.product_list.proofs.Ruling.{at_ok, product_fails, product_put}
 use Rattle.product_list.proofs.draft.Draft.put_product.Goals as goal

@@ -1,5 +1,5 @@
 use Rattle.std.proofs.Common.{Bool, List, subst}
-use Rattle.region_plan.specs.Kept.{Like}
+use Rattle.region_plan.specs.inside.Kept.{Like}
 use Rattle.region_plan.proofs.Keeping.{all_kept, like_of}
 use Rattle.region_plan.proofs.kept.Walks.prepare.Goals as goal
 use Rattle.region_plan.proofs.kept.Walks.prepare.Goals.{then-not-is_like+in_ok-self-inside, else-not-is_like}

@@ -1,5 +1,5 @@
 use Rattle.std.proofs.Common.{◌≡◌, ◌↔◌, ℕ, List, Option, Some, slice_get, subst}
-use Rattle.region_plan.specs.Tree.{Growth, PlaceOf}
+use Rattle.region_plan.specs.inside.Tree.{Growth, PlaceOf}
 use Rattle.region_plan.proofs.Places.{place_of}
 use Rattle.region_plan.proofs.tree.Tree.place.Goals as goal
 

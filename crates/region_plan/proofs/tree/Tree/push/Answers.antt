@@ -1,7 +1,7 @@
 use Rattle.std.proofs.Common.{◌+◌, ◌<◌, length, arith, refl, subst, sym}
 use Rattle.patch_layout.specs.Spread.{InQueue}
 use Rattle.patch_layout.proofs.Places.{read_at}
-use Rattle.region_plan.specs.Tree.{Growth, Pushed}
+use Rattle.region_plan.specs.inside.Tree.{Growth, Pushed}
 use Rattle.region_plan.proofs.Places.{placing_more, placed_few}
 use Rattle.region_plan.proofs.tree.Tree.push.Goals as goal
 

@@ -1,7 +1,7 @@
 use Rattle.std.proofs.Common.{◌≡◌, ◌∷◌, [], ◌++◌, append_assoc}
 use Rattle.board_core.specs.History.{entries, delivered, delivery_in}
 use Rattle.board_core.specs.View.{claimed_axis, claimed_in}
-use Rattle.schedule_text.specs.Bits.{claimed_sign, raw_outcome}
+use Rattle.schedule_text.specs.inside.Bits.{claimed_sign, raw_outcome}
 use Rattle.schedule_text.proofs.Hearing.{tells_more, sign_more, raw_more}
 use Rattle.schedule_text.proofs.bits.Said.of.Goals as goal
 

@@ -3,7 +3,7 @@ use Rattle.std.specs.Prelude.{None, Some, slice_get, unwrap_or, if◌then◌else
 use Rattle.pauli_product.specs.Corrections.{xor}
 use Rattle.source_model.specs.Bits.{writes}
 use Rattle.source_model.specs.Statics.{kinds_of}
-use Rattle.schedule_text.specs.Bits.{turned_round}
+use Rattle.schedule_text.specs.inside.Bits.{turned_round}
 use Rattle.schedule_text.proofs.Hearing.{turned_at}
 use Rattle.schedule_text.proofs.LastWritten.{behind_next, written_at, past_table, writes_nothing, kind_at}
 use Rattle.schedule_text.proofs.bits.Said.write.Goals as goal

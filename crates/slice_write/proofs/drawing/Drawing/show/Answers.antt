@@ -1,8 +1,8 @@
 use Rattle.std.proofs.Common.{◌+◌, List, length, get_or, take, arith, ◌∙◌, ap, refl, subst}
 use Rattle.std.proofs.lemmas.List.{take_all, get_or_default}
 use Rattle.slice_write.specs.declared.marks.Mark.{Mark}
-use Rattle.slice_write.specs.Marks.{mark, mark_at, with_mark}
-use Rattle.slice_write.specs.Pages.{Draws}
+use Rattle.slice_write.specs.inside.Marks.{mark, mark_at, with_mark}
+use Rattle.slice_write.specs.inside.Pages.{Draws}
 use Rattle.slice_write.proofs.Drawn.{as_long, blanked, draws_agree, mark_more}
 use Rattle.slice_write.proofs.drawing.Drawing.show.Goals as goal
 

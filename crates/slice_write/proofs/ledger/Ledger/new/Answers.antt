@@ -1,4 +1,4 @@
-use Rattle.slice_write.specs.Tables.{job}
+use Rattle.slice_write.specs.inside.Tables.{job}
 use Rattle.slice_write.proofs.Starting.{keeps_new}
 use Rattle.slice_write.proofs.ledger.Ledger.new.Goals as goal
 

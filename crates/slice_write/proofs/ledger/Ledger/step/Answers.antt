@@ -2,7 +2,7 @@ use Rattle.std.proofs.Common.{◌≡◌, ◌+◌, [], ◌∷◌, ◌++◌, lengt
 use Rattle.std.specs.Prelude.{if◌then◌else◌}
 use Rattle.std.proofs.lemmas.List.{get_or_read}
 use Rattle.slice_write.specs.declared.factory.Factory.{Factory}
-use Rattle.slice_write.specs.Factories.{makes}
+use Rattle.slice_write.specs.inside.Factories.{makes}
 use Rattle.slice_write.proofs.ledger.Ledger.step.Goals as goal
 
 pub returns-in_ok-push-3-clause-notes : goal.returns-in_ok-push-3-clause-notes

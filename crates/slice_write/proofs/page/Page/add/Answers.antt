@@ -1,6 +1,6 @@
 use Rattle.std.proofs.Common.{◌∙◌, ◌++◌, ap, refl, arith, map}
 use Rattle.slice_write.specs.Slices.{is_claim_cell}
-use Rattle.slice_write.specs.Marks.{mark}
+use Rattle.slice_write.specs.inside.Marks.{mark}
 use Rattle.slice_write.proofs.Paging.{page_claim, page_step, page_quiet}
 use Rattle.slice_write.proofs.page.Page.add.Goals as goal
 

@@ -1,0 +1,4 @@
+pub mod Columns
+pub mod Commuting
+pub mod Sharing
+pub mod Words

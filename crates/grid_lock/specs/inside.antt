@@ -1,0 +1,4 @@
+pub mod Hands
+pub mod Passes
+pub mod Plays
+pub mod Views

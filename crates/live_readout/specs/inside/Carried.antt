@@ -1,0 +1,14 @@
+-- The board of a job that was carried out live.
+use Rattle.std.specs.Prelude.{◌≡◌}
+use Rattle.board_core.specs.Legal.{Complete}
+use Rattle.board_core.specs.Position.{Position, past, IsLegal}
+use Rattle.job_read.specs.declared.Job.{Job}
+use Rattle.job_read.specs.Starts.{board_job}
+use Rattle.live_readout.specs.Carried.{AreByLiveWorkers}
+
+-- the job's board, whose products are all done
+pub record IsCarriedOut (job : Job) (b : Position) : Type 0 where
+  pub job_is : b.job ≡ board_job job
+  pub legal : IsLegal b
+  pub complete : Complete (board_job job) (past b) job.outcomes.given
+  pub workers : AreByLiveWorkers b.history

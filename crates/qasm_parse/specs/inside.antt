@@ -1,0 +1,6 @@
+pub mod Lexed
+pub mod Meets
+pub mod Pass
+pub mod Refused
+pub mod Small
+pub mod Tried
